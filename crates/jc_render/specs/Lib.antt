@@ -3,3 +3,4 @@ pub mod Objects
 pub mod Terminal
 pub mod Texts
 pub mod Words
+pub mod Writers

@@ -3,6 +3,7 @@
 ghost use Rattle.std.specs.Prelude.{◌≡◌, ◌↔◌, ◌⊎◌, ◌≤◌, ◌+◌, ◌-◌, ◌^◌, Some, false, IfSome, IsTrue, map, min, option_map, string_bytes};
 ghost use Rattle.std.specs.declared.time.Instant.{Instant as Moment};
 ghost use Rattle.jc_render.specs.Terminal.{IsDue, IsLineFor, line_text, megabytes, unit_of, units_in};
+ghost use Rattle.jc_render.specs.Writers.{is_shown, line_of};
 
 use jc_command_args::{Request, parse};
 use std::io::{IsTerminal, Stderr, Write};
@@ -31,8 +32,8 @@ pub struct Board<'a> {
 
 /// A board for what these words ask for, if it may take long and there is a terminal. A large file is told of at once.
 pub fn board_for<'a>(rt: &'a HostRuntime, words: &[String]) -> Option<Board<'a>>
-    ensures line { IfSome result (λ board. IsLineFor (map string_bytes words.now) board.line) }
-    ensures is_there { IfSome result (λ board. IsTrue board.is_there ↔ (LARGE ≤ board.line.size)) }
+    ensures line { IfSome result (λ board. IsLineFor (map string_bytes words.now) (line_of board)) }
+    ensures is_there { IfSome result (λ board. IsTrue (is_shown board) ↔ (LARGE ≤ (line_of board).size)) }
 {
     let terminal = rt.stderr();
     if !terminal.is_terminal() {

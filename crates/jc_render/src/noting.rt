@@ -2,6 +2,7 @@
 
 ghost use Rattle.std.specs.Prelude.{◌≡◌, ◌⊎◌, ◌==◌, ◌++◌, ◌∷◌, [], None, Some, IfSome, if◌then◌else◌};
 ghost use Rattle.jc_render.specs.Texts.{IsFailure, answer_trouble, found_trouble};
+ghost use Rattle.jc_render.specs.Writers.{troubles_of};
 ghost use Rattle.jc_render.specs.declared.noting.Trouble.TheVariants.{Empty};
 
 use crate::cause::advice;
@@ -99,7 +100,7 @@ pub struct Noting<W: Write + Drop> {
 impl<W: Write + Drop> Noting<W> {
     pub fn new(alloc: Global, inner: W) -> Noting<W>
         ensures inner { result.inner ≡ inner }
-        ensures troubles { result.troubles.items ≡ [] }
+        ensures troubles { troubles_of result ≡ [] }
     {
         Noting {
             inner,

@@ -7,6 +7,7 @@ ghost use Rattle.jc_keeper.specs.declared.form.Shape.TheVariants.{Line, Object};
 ghost use Rattle.jc_codes.specs.Rows.{IsRow};
 ghost use Rattle.jc_codes.specs.declared.table.Coded.{Coded};
 ghost use Rattle.jc_render.specs.Objects.{AreLinesBelow, IsCode, IsFault, IsLineOf, IsObject, count_object, end_text, upload_object};
+ghost use Rattle.jc_render.specs.Writers.{has_all_objects};
 
 use jc_base::Key;
 use jc_codes::row_about;
@@ -37,7 +38,7 @@ impl<W: Write + Drop> Json<W> {
         ensures inner { result.inner ≡ inner }
         ensures passed { ⟦<Json<W> as Write>⟧.contents result ≡ (if is_asked then None else W.contents inner) }
         ensures shape { ⟦<Json<W> as Output>⟧.entry_shape result ≡ (if is_asked then Shape.Object else Shape.Line) }
-        ensures memory { result.has_memory ≡ true }
+        ensures all { has_all_objects result ≡ true }
     {
         Json {
             inner,
@@ -49,7 +50,7 @@ impl<W: Write + Drop> Json<W> {
 
     /// Whether there was memory for all objects.
     pub fn end(&self) -> Result<(), Failure<'static>>
-        ensures { result ≡ (if self.now.has_memory then Ok tt else Err Failure.OutOfMemory) }
+        ensures { result ≡ (if has_all_objects self.now then Ok tt else Err Failure.OutOfMemory) }
     {
         if self.has_memory {
             Ok(())

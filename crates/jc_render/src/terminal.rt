@@ -23,8 +23,7 @@ pub struct Masked<'a, O: Write + Drop> {
 
 impl<'a, O: Write + Drop> Masked<'a, O> {
     pub fn new(inner: O, is_terminal: bool, board: Option<Board<'a>>) -> Masked<'a, O>
-        ensures inner { result.inner ≡ inner }
-        ensures is_terminal { result.is_terminal ≡ is_terminal }
+        ensures { ⟦<Masked<'a, O> as Write>⟧.contents result ≡ (if is_terminal then None else O.contents inner) }
     {
         Masked {
             inner,
@@ -36,12 +35,15 @@ impl<'a, O: Write + Drop> Masked<'a, O> {
 
     /// Clears the line of the board.
     pub fn wipe(&mut self)
-        ensures inner { self.new.inner ≡ self.old.inner }
-        ensures is_terminal { self.new.is_terminal ≡ self.old.is_terminal }
+        ensures { ⟦<Masked<'a, O> as Write>⟧.contents self.new ≡ ⟦<Masked<'a, O> as Write>⟧.contents self.old }
     {
-        if let Some(board) = &mut self.board {
-            board.wipe();
-        }
+        wipe(&mut self.board);
+    }
+}
+
+fn wipe(board: &mut Option<Board<'_>>) {
+    if let Some(board) = board {
+        board.wipe();
     }
 }
 
@@ -51,7 +53,7 @@ impl<O: Write + Drop> Write for Masked<'_, O> {
     fn write(&mut self, buf: &[u8]) -> io::Result<usize> {
         let count = if self.is_terminal {
             // A line of the board would be in its way.
-            self.wipe();
+            wipe(&mut self.board);
             let mut piece = [0; PIECE];
             let count = self.ahead.mask(buf, &mut piece);
             self.inner.write_all(&piece[..count])?;
@@ -125,8 +127,7 @@ pub struct Wiping<E: Write + Drop> {
 
 impl<E: Write + Drop> Wiping<E> {
     pub fn new(inner: E, has_board: bool) -> Wiping<E>
-        ensures inner { result.inner ≡ inner }
-        ensures has_board { result.has_board ≡ has_board }
+        ensures { ⟦<Wiping<E> as Write>⟧.contents result ≡ (if has_board then None else E.contents inner) }
     {
         Wiping {
             inner,
