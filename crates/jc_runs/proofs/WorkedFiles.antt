@@ -32,13 +32,13 @@ use Rattle.jc_ledger_files.specs.Windows.{known_in, same_window, window_of}
 use Rattle.jc_runs.specs.Between.{Between, nothing}
 use Rattle.jc_runs.specs.Next.{FirstBegins, MayMake, no_file}
 use Rattle.jc_runs.specs.Steps.{LeadsOn}
-use Rattle.jc_runs.specs.Worked.{Starts, numbered, of_one, of_other, worked}
+use Rattle.jc_runs.specs.Worked.{Starts, numbered, of_lost, of_one, of_other, worked}
 use Rattle.jc_runs.proofs.Course.{keeps_on, stands_at_first}
 use Rattle.jc_runs.proofs.Following.{begins_alike}
 use Rattle.jc_runs.proofs.OneMore.{Reads}
 use Rattle.jc_runs.proofs.Stepping.{Laws}
 use Rattle.jc_runs.proofs.Unions.{has_none, in_now, in_past, union_none, void}
-use Rattle.jc_runs.proofs.WorkedSteps.{both_owners, came, has_no_third, has_one, is_numbered, leads_half, leads_to_s4, m1, m2, no_one, none_collide, one_only, owned_if, p1, p2, s4, s5}
+use Rattle.jc_runs.proofs.WorkedSteps.{both_owners, has_no_third, has_one, is_numbered, leads_half, leads_to_s4, leads_to_s6, m1, m2, no_lost, no_one, none_collide, none_collide_all, one_only, owned_if, p1, p2, s4, s5, s6}
 
 -- what is read of files, and that owners among the notes do no harm
 pub record Files : Type 0 where
@@ -200,11 +200,11 @@ module _ (files : Files) where
   unfolding all_notes owner_notes both_owners
   owner_there s = ap owner_of (found (owner_window s)) ∙ owned (is_numbered 1 s) (is_numbered 2 s)
 
-  -- A run begins behind such a list if this is all that came, is known and belongs to somebody.
+  -- A run begins behind such a list if this is known and belongs to somebody, and nothing that came collides.
   starts_at : Laws → (steps : ℕ) (b : Between) → LeadsOn nothing (take steps worked) b → (past now : Journal) → b.past ≡ union past now
-      → b.known ≡ known_of p2 → b.owner ≡ both_owners → b.came ≡ came → Starts steps b
+      → b.known ≡ known_of p2 → b.owner ≡ both_owners → NoneCollide (Contains b.came) → Starts steps b
   unfolding both_owners is_numbered owned_if
-  starts_at laws steps b leads past now earlier known owner had = record {
+  starts_at laws steps b leads past now earlier known owner apart = record {
     leads = leads;
     owner = ap (λ (o : Owner). o (numbered 1)) owner;
     owner_of_other = ap (λ (o : Owner). o (numbered 2)) owner;
@@ -219,15 +219,19 @@ module _ (files : Files) where
       came = λ e inside. inside;
     };
     begins = λ image told seen deeds shape. begins_alike (sym all_there) (λ k key. known_there k key ∙ ap (λ (o : Known). o k) (sym known)) (λ e inside. inside)
-        (keeps_on laws nothing b (take steps worked) leads (subst (λ (es : List LogEntry). NoneCollide (Contains es)) (sym had) none_collide) (stands_at_first laws.same)).stands.begins;
+        (keeps_on laws nothing b (take steps worked) leads apart (stands_at_first laws.same)).stands.begins;
   }
     where
       all_there : union b.past empty ≡ b.past
       all_there = subst (λ (m : Journal). union m empty ≡ m) (sym earlier) (laws.same past now)
 
-  pub starts : Laws → Reads → ((b : Between) × Starts 4 b × (b.now ≡ insert empty of_other.key of_other.body)) × ((b : Between) × Starts 5 b × (b.now ≡ empty) × MayMake b)
+  pub starts : Laws → Reads
+      → ((b : Between) × Starts 4 b × (b.now ≡ insert empty of_other.key of_other.body))
+      × ((b : Between) × Starts 5 b × (b.now ≡ empty) × MayMake b)
+      × ((b : Between) × Starts 6 b × (b.now ≡ insert empty of_lost.key of_lost.body) × (b.known of_lost.key ≡ None))
   unfolding one_only
   starts laws reads = (
-    (s4, starts_at laws 4 s4 (leads_to_s4 reads) empty m1 refl refl refl refl, refl),
-    (s5, starts_at laws 5 s5 (leads_half reads) p1 m2 refl refl refl refl, refl, makes_file),
+    (s4, starts_at laws 4 s4 (leads_to_s4 reads) empty m1 refl refl refl none_collide, refl),
+    (s5, starts_at laws 5 s5 (leads_half reads) p1 m2 refl refl refl none_collide, refl, makes_file),
+    (s6, starts_at laws 6 s6 (leads_to_s6 reads) p1 m2 refl refl refl none_collide_all, refl, ap (option_map (digest_under of_lost.key)) no_lost),
   )

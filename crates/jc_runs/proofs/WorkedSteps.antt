@@ -64,7 +64,7 @@ m1 = one_only of_one
 abbrev pub m2 : Journal
 m2 = one_only of_other
 
-abbrev m3 : Journal
+abbrev pub m3 : Journal
 m3 = one_only of_lost
 
 abbrev pub p1 : Journal
@@ -134,7 +134,7 @@ pub has_no_third : (k : Key) → key_eq k of_one.key ≡ false → key_eq k of_o
 has_no_third k one other =
     union_get p1 m2 k ∙ (ap (λ (o : Option Body). option_or o (get p1 k)) (none_but of_other k other) ∙ p1_get k (none_but of_one k one))
 
-no_lost : get p2 of_lost.key ≡ None
+pub no_lost : get p2 of_lost.key ≡ None
 no_lost = has_no_third of_lost.key refl refl
 
 gone_one : get p4 of_one.key ≡ None
@@ -216,7 +216,7 @@ s4 = record s3 { known = known_of (union p1 m2) }
 abbrev pub s5 : Between
 s5 = record s4 { earlier = database Kept m2 ∷ database Kept m1 ∷ []; past = p2; now = empty }
 
-abbrev s6 : Between
+abbrev pub s6 : Between
 s6 = record s5 { now = m3; came = came_all }
 
 abbrev s7 : Between
@@ -434,7 +434,7 @@ plain e inside = ⊎_elim (λ (a : Contains (of_lost ∷ []) e). is_plain of_los
     is_plain : (x : LogEntry) → x.body ≡ of_one.body → x ≡ e → e.body ≡ of_one.body
     is_plain x body is = sym (ap (λ (y : LogEntry). y.body) is) ∙ body
 
-none_collide_all : NoneCollide (Contains came_all)
+pub none_collide_all : NoneCollide (Contains came_all)
 none_collide_all e f here there keys digests = same_parts e f keys (plain e here ∙ sym (plain f there))
 
 pub none_collide : NoneCollide (Contains came)
@@ -445,6 +445,9 @@ leads_to_s4 reads = (s1, step1 reads, (s2, step2, (s3, step3 reads, (s4, step4 r
 
 pub leads_half : Reads → LeadsOn nothing (take 5 worked) s5
 leads_half reads = (s1, step1 reads, (s2, step2, (s3, step3 reads, (s4, step4 reads, (s5, step5, refl)))))
+
+pub leads_to_s6 : Reads → LeadsOn nothing (take 6 worked) s6
+leads_to_s6 reads = (s1, step1 reads, (s2, step2, (s3, step3 reads, (s4, step4 reads, (s5, step5, (s6, step6 reads, refl))))))
 
 leads_there : Reads → LeadsOn nothing worked s10
 leads_there reads = (

@@ -1,6 +1,6 @@
 //! What holds after any list of runs.
 
-ghost use Rattle.std.specs.Prelude.{◌≡◌, List, Option};
+ghost use Rattle.std.specs.Prelude.{◌≡◌, List, Option, None};
 ghost use Rattle.std.specs.FinMap.{empty, insert};
 ghost use Rattle.std.specs.List.{Contains};
 ghost use Rattle.jc_base.specs.declared.id.Id128.{Id128};
@@ -13,7 +13,7 @@ ghost use Rattle.jc_runs.specs.Next.{FirstBegins, MayMake};
 ghost use Rattle.jc_runs.specs.Safe.{DeletesSafely, TellsAll};
 ghost use Rattle.jc_runs.specs.Stands.{Keeps, Stands};
 ghost use Rattle.jc_runs.specs.Steps.{Leads, LeadsOn, Step, Turn, renames, with_owner};
-ghost use Rattle.jc_runs.specs.Worked.{IsWorked, Starts, of_other};
+ghost use Rattle.jc_runs.specs.Worked.{IsWorked, Starts, of_lost, of_other};
 
 use jc_base::Limits;
 use jc_collect::{acknowledged_stored, each_stored};
@@ -39,9 +39,11 @@ pub fn runs_keep()
     ensures renames { (b : Between) (s : Id128) (machine : Option MachineDigest) → Leads (renames s) b (with_owner s machine b) }
     // There are such lists, and such uploads.
     ensures worked { (c : Between) × IsWorked c }
-    // A run begins with a database that has this entry alone, and behind a turn with an empty one, or with no file yet.
+    // A run begins with a database that has this entry alone, and behind a turn with an empty one, or with no file yet. So it
+    // does behind a stop, with a database whose entry has no note yet.
     ensures starts { ((b : Between) × Starts 4 b × (b.now ≡ insert empty of_other.key of_other.body))
-        × ((b : Between) × Starts 5 b × (b.now ≡ empty) × MayMake b) }
+        × ((b : Between) × Starts 5 b × (b.now ≡ empty) × MayMake b)
+        × ((b : Between) × Starts 6 b × (b.now ≡ insert empty of_lost.key of_lost.body) × (b.known of_lost.key ≡ None)) }
 {
     acknowledged_stored();
     each_stored();
