@@ -1,4 +1,4 @@
 pub mod Samples
 pub mod Machines
 pub mod Noted
-pub mod OneNote
+pub mod Windows

@@ -5,13 +5,13 @@
 mod machines;
 mod memory;
 mod noted;
-mod one_note;
 mod samples;
 #[cfg(test)]
 mod tests;
+mod windows;
 
 pub use machines::Machines;
 pub use memory::{Memory, MemoryFile, Told};
 pub use noted::{Note, WrittenFile};
-pub use one_note::OneNote;
 pub use samples::Samples;
+pub use windows::Windows;
