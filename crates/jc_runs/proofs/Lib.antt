@@ -8,5 +8,5 @@ mod OneMore
 mod WorkedDeletion
 mod WorkedSteps
 mod Following
-mod Renaming
 mod WorkedFiles
+mod Renaming

@@ -29,6 +29,7 @@ use Rattle.jc_ledger_files.specs.NotesOf.{notes_of}
 use Rattle.jc_ledger_files.specs.Owned.{owner_found, owner_of, owner_window}
 use Rattle.jc_ledger_files.specs.OwnersLaws.{with_owners}
 use Rattle.jc_ledger_files.specs.Windows.{known_in, same_window, window_of}
+use Rattle.jc_notes.specs.Printed.{owner_note}
 use Rattle.jc_runs.specs.Between.{Between, nothing}
 use Rattle.jc_runs.specs.Next.{FirstBegins, MayMake, no_file}
 use Rattle.jc_runs.specs.Steps.{LeadsOn}
@@ -55,12 +56,9 @@ entry_notes : WindowName → List WindowNote
 entry_notes w =
     cond (same_window (window_of of_one.key) w) (note_of of_one ∷ []) (cond (same_window (window_of of_other.key) w) (note_of of_other ∷ []) [])
 
-owner_note : (name : List ℕ) → WindowNote
-owner_note name = record { number = 2 ^ 63; digest = record { 0 = (machine_named name).0 } }
-
 notes_owning : (one other : Bool) → List WindowNote
-notes_owning true other = owner_note (1 ∷ []) ∷ []
-notes_owning false true = owner_note (2 ∷ []) ∷ []
+notes_owning true other = owner_note (machine_named (1 ∷ [])) ∷ []
+notes_owning false true = owner_note (machine_named (2 ∷ [])) ∷ []
 notes_owning false false = []
 
 owner_notes : Id128 → List WindowNote
@@ -139,11 +137,11 @@ lawful_note : (e : LogEntry) (few : e.key.seqnum < 2 ^ 64) → All IsNote (note_
 unfolding note_of digest_of
 lawful_note e few = All-from_recursion IsNote (note_of e ∷ []) (record { number = few; digest = length-sha256 (canon e) }, tt)
 
-lawful_owner : (name : List ℕ) → All IsNote (owner_note name ∷ [])
-unfolding owner_note machine_named
-lawful_owner name = All-from_recursion IsNote (owner_note name ∷ []) (record { number = omega arith; digest = length-sha256 name }, tt)
+pub lawful_owner : (name : List ℕ) → All IsNote (owner_note (machine_named name) ∷ [])
+unfolding machine_named
+lawful_owner name = All-from_recursion IsNote (owner_note (machine_named name) ∷ []) (record { number = omega arith; digest = length-sha256 name }, tt)
 
-no_notes : All IsNote []
+pub no_notes : All IsNote []
 no_notes = All-from_recursion IsNote [] tt
 
 either_notes : (b : Bool) (x y : List WindowNote) → All IsNote x → All IsNote y → All IsNote (cond b x y)
@@ -191,7 +189,7 @@ module _ (files : Files) where
   }
 
   owned : (one other : Bool) → owner_of (notes_owning one other) ≡ owned_if one other
-  unfolding notes_owning owned_if owner_note
+  unfolding notes_owning owned_if
   owned true other = refl
   owned false true = refl
   owned false false = refl

@@ -10,6 +10,7 @@ ghost use Rattle.jc_ledger.specs.declared.owner.MachineDigest.{MachineDigest};
 ghost use Rattle.jc_ledger.specs.Kept.{IsKept, NoneCollide};
 ghost use Rattle.jc_runs.specs.Between.{Between, Fate, nothing};
 ghost use Rattle.jc_runs.specs.Next.{FirstBegins, MayMake};
+ghost use Rattle.jc_runs.specs.Renamed.{OwnersAreChanged};
 ghost use Rattle.jc_runs.specs.Safe.{DeletesSafely, TellsAll};
 ghost use Rattle.jc_runs.specs.Stands.{Keeps, Stands};
 ghost use Rattle.jc_runs.specs.Steps.{Leads, LeadsOn, Step, Turn, renames, with_owner};
@@ -35,6 +36,8 @@ pub fn runs_keep()
     // If `acknowledged` ends with 0, a line acknowledges all of the upload, and all that this reads as is kept.
     ensures tells { TellsAll }
     ensures deletes { DeletesSafely }
+    // `owners` finds whose a sequence is where the next run does, and what it changes there is such a step.
+    ensures owners { OwnersAreChanged }
     // Whose a sequence is may be changed at any time.
     ensures renames { (b : Between) (s : Id128) (machine : Option MachineDigest) → Leads (renames s) b (with_owner s machine b) }
     // There are such lists, and such uploads.

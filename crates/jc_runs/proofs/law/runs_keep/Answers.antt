@@ -1,6 +1,6 @@
 use Rattle.jc_runs.proofs.Acknowledging.{deletes_safely, tells_all}
 use Rattle.jc_runs.proofs.Course.{keeps_on, stands_at_first, turns_whole}
-use Rattle.jc_runs.proofs.Renaming.{renamed}
+use Rattle.jc_runs.proofs.Renaming.{owners_changed, renamed}
 use Rattle.jc_runs.proofs.Stepping.{Laws}
 use Rattle.jc_runs.proofs.WorkedFiles.{first, starts}
 use Rattle.jc_runs.proofs.WorkedSteps.{it_is_worked}
@@ -62,6 +62,9 @@ returns-clause-starts c =
     } in
     starts (record { read = c.one_reading-2.ensures.read; known = c.owners_are_no_harm.ensures.known }) laws
     (record { some = c.one_reading.ensures.some; back = c.canonical_texts_read_back.ensures.whole })
+
+pub returns-clause-owners : goal.returns-clause-owners
+returns-clause-owners c = owners_changed (record { read = c.one_reading-2.ensures.read; known = c.owners_are_no_harm.ensures.known })
 
 pub returns-clause-renames : goal.returns-clause-renames
 returns-clause-renames c = renamed
