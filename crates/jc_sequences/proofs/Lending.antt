@@ -1,5 +1,6 @@
 -- A file is lent that was kept, or that is asked for first.
 use Rattle.std.proofs.Common.{◌≡◌, ℕ, Bool, List, sym, ◌∙◌}
+use Rattle.std.specs.Prelude.{Err, Ok, OnOk, Result}
 use Rattle.jc_ledger_files.specs.declared.window_name.WindowName.{WindowName}
 use Rattle.jc_ledger_files.specs.Files.{IsAsFound}
 use Rattle.jc_ledger_files.specs.Lent.{AllStay, IsLent, OthersStay}
@@ -16,3 +17,7 @@ lent_found is same crash = record { same = same ∙ sym is.same; crash = λ c ma
 pub others_of : {name : WindowName} {before now : WindowName → List ℕ} {left leaves : WindowName → List ℕ → Type 0}
     → AllStay before now left leaves → OthersStay name before now left leaves
 others_of all = record { same = λ w apart. all.same w; crash = λ w apart. all.crash w }
+
+pub if_kept : {T E P Q : Type 0} (result : Result T E) → OnOk result P → (P → Q) → OnOk result Q
+if_kept (Ok value) had next = next had
+if_kept (Err error) had next = tt

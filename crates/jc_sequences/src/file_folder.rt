@@ -24,7 +24,7 @@ pub type FileFolder<'a, F> = WindowFolder<'a, FoundFile<File, F>, F>;
 pub struct WindowFolder<'a, D: WindowFile<F> + Drop, F: Found> {
     place: Place<'a>,
     open: OpenFiles<D, F>,
-    /// How often a file couldn't be opened, up to 2^64 - 1.
+    /// How often a file couldn't be opened, or was lost, up to 2^64 - 1.
     failures: u64,
     faults: &'a Faults,
 }
@@ -47,7 +47,7 @@ impl<'a, D: WindowFile<F> + Drop, F: Found> WindowFolder<'a, D, F> {
         }
     }
 
-    /// Why this file isn't lent, which is counted and noted unless memory was refused.
+    /// Why this file isn't lent or kept, which is counted and noted unless memory was refused.
     fn count(&mut self, name: WindowName, error: io::Error) -> KeepStop
         ensures never_read { result ≢ ReadFailed }
         ensures never_falls { self.old.failures ≤ self.new.failures }
@@ -95,8 +95,11 @@ impl<'a, D: WindowFile<F> + Drop, F: Found> Folder<D> for WindowFolder<'a, D, F>
         }
     }
 
-    fn give_back(&mut self, name: WindowName, file: D) {
+    fn give_back(&mut self, name: WindowName, file: D) -> Result<(), KeepStop> {
         self.note(name, file.last_error());
-        self.open.put(name, file);
+        match self.open.put(name, file) {
+            Ok(()) => Ok(()),
+            Err(error) => Err(self.count(name, error)),
+        }
     }
 }

@@ -89,12 +89,14 @@ impl<D: WindowFile<F> + Drop, F: Found> OpenFiles<D, F> {
         ensures clean { self.new.is_worn ≡ false → AreClean D.Disk.is_clean self.new.kept.files
             → MatchResult result (λ file. IsTrue (D.Disk.is_clean file) → AreClean D.Disk.is_clean self.old.kept.files) (λ _. AreClean D.Disk.is_clean self.old.kept.files) }
         ensures worn { self.new.is_worn ≡ false → self.old.is_worn ≡ false }
+        ensures calm { OnOk result (self.old.is_worn ≡ false → AreClean D.Disk.is_clean self.old.kept.files
+            → (self.new.is_worn ≡ false) × AreClean D.Disk.is_clean self.new.kept.files) }
     {
         let mut file = self.take(name);
         match file.open(place, makes) {
             Ok(()) => Ok(file),
             Err(error) => {
-                self.keep(name, file);
+                let _ = self.keep(name, file);
                 Err(error)
             }
         }
@@ -107,6 +109,7 @@ impl<D: WindowFile<F> + Drop, F: Found> OpenFiles<D, F> {
         ensures others { OthersStay name (files_seen F.found D.Disk.seen self.old.kept.files) (files_seen F.found D.Disk.seen self.new.kept.files)
             (files_leave F.found D.Disk.may_leave self.old.kept.files) (files_leave F.found D.Disk.may_leave self.new.kept.files) }
         ensures clean { AreClean D.Disk.is_clean self.new.kept.files → IsTrue (D.Disk.is_clean result) → AreClean D.Disk.is_clean self.old.kept.files }
+        ensures calm { AreClean D.Disk.is_clean self.old.kept.files → IsTrue (D.Disk.is_clean result) × AreClean D.Disk.is_clean self.new.kept.files }
         ensures worn { self.new.is_worn ≡ self.old.is_worn }
     {
         self.names.retain(|open| *open != name);
@@ -116,8 +119,9 @@ impl<D: WindowFile<F> + Drop, F: Found> OpenFiles<D, F> {
         }
     }
 
-    /// Keeps a file open. If there are as many as there may be, the one is closed that wasn't used for longest.
-    pub(crate) fn put(&mut self, name: WindowName, file: D)
+    /// Keeps a file open. If there are as many as there may be, the one is closed that wasn't used for longest. If it fails, a
+    /// file may be lost.
+    pub(crate) fn put(&mut self, name: WindowName, file: D) -> io::Result<()>
         ensures file { self.new.is_worn ≡ false → IsBack name (D.Disk.seen file) (D.Disk.may_leave file)
             (files_seen F.found D.Disk.seen self.new.kept.files) (files_leave F.found D.Disk.may_leave self.new.kept.files) }
         ensures others { self.new.is_worn ≡ false → OthersStay name
@@ -126,53 +130,67 @@ impl<D: WindowFile<F> + Drop, F: Found> OpenFiles<D, F> {
         ensures clean { self.new.is_worn ≡ false → AreClean D.Disk.is_clean self.new.kept.files
             → IsTrue (D.Disk.is_clean file) × AreClean D.Disk.is_clean self.old.kept.files }
         ensures worn { self.new.is_worn ≡ false → self.old.is_worn ≡ false }
+        ensures calm { OnOk result (self.old.is_worn ≡ false → AreClean D.Disk.is_clean self.old.kept.files → IsTrue (D.Disk.is_clean file)
+            → (self.new.is_worn ≡ false) × AreClean D.Disk.is_clean self.new.kept.files) }
     {
-        self.make_room();
-        self.add_name(name);
-        self.keep(name, file);
+        self.make_room()?;
+        self.add_name(name)?;
+        self.keep(name, file)
     }
 
     /// Closes the file that wasn't used for longest, if there are as many open as there may be. What it has stays known.
-    fn make_room(&mut self)
+    fn make_room(&mut self) -> io::Result<()>
         ensures all { self.new.is_worn ≡ false → AllStay (files_seen F.found D.Disk.seen self.old.kept.files) (files_seen F.found D.Disk.seen self.new.kept.files)
             (files_leave F.found D.Disk.may_leave self.old.kept.files) (files_leave F.found D.Disk.may_leave self.new.kept.files) }
         ensures clean { self.new.is_worn ≡ false → AreClean D.Disk.is_clean self.new.kept.files → AreClean D.Disk.is_clean self.old.kept.files }
         ensures worn { self.new.is_worn ≡ false → self.old.is_worn ≡ false }
+        ensures calm { OnOk result (self.old.is_worn ≡ false → AreClean D.Disk.is_clean self.old.kept.files
+            → (self.new.is_worn ≡ false) × AreClean D.Disk.is_clean self.new.kept.files) }
+        ensures lost { OnErr result (self.new.is_worn ≡ true) }
     {
         if self.names.len() >= MOST_FILES {
-            self.close_oldest();
+            return self.close_oldest();
         }
+        Ok(())
     }
 
-    fn add_name(&mut self, name: WindowName)
+    fn add_name(&mut self, name: WindowName) -> io::Result<()>
         ensures kept { self.new.kept ≡ self.old.kept }
         ensures worn { self.new.is_worn ≡ false → self.old.is_worn ≡ false }
+        ensures calm { OnOk result (self.new.is_worn ≡ self.old.is_worn) }
+        ensures lost { OnErr result (self.new.is_worn ≡ true) }
     {
         match self.names.push(name) {
-            Ok(()) => {}
-            Err(_refused) => self.is_worn = true,
+            Ok(()) => Ok(()),
+            Err(_refused) => {
+                self.is_worn = true;
+                Err(io::ErrorKind::OutOfMemory.into())
+            }
         }
     }
 
-    fn close_oldest(&mut self)
+    fn close_oldest(&mut self) -> io::Result<()>
         requires { 0 < vec_len self.old.names }
         ensures all { self.new.is_worn ≡ false → AllStay (files_seen F.found D.Disk.seen self.old.kept.files) (files_seen F.found D.Disk.seen self.new.kept.files)
             (files_leave F.found D.Disk.may_leave self.old.kept.files) (files_leave F.found D.Disk.may_leave self.new.kept.files) }
         ensures clean { self.new.is_worn ≡ false → AreClean D.Disk.is_clean self.new.kept.files → AreClean D.Disk.is_clean self.old.kept.files }
         ensures worn { self.new.is_worn ≡ false → self.old.is_worn ≡ false }
+        ensures calm { OnOk result (self.old.is_worn ≡ false → AreClean D.Disk.is_clean self.old.kept.files
+            → (self.new.is_worn ≡ false) × AreClean D.Disk.is_clean self.new.kept.files) }
+        ensures lost { OnErr result (self.new.is_worn ≡ true) }
     {
         let oldest = self.names.remove(0);
         match self.kept.take(oldest) {
             Some(mut file) => {
                 file.close();
-                self.keep(oldest, file);
+                self.keep(oldest, file)
             }
-            None => {}
+            None => Ok(()),
         }
     }
 
-    /// Keeps a file, open or closed.
-    fn keep(&mut self, name: WindowName, file: D)
+    /// Keeps a file, open or closed. If it fails, the file is lost.
+    fn keep(&mut self, name: WindowName, file: D) -> io::Result<()>
         ensures file { self.new.is_worn ≡ false → IsBack name (D.Disk.seen file) (D.Disk.may_leave file)
             (files_seen F.found D.Disk.seen self.new.kept.files) (files_leave F.found D.Disk.may_leave self.new.kept.files) }
         ensures others { self.new.is_worn ≡ false → OthersStay name
@@ -181,14 +199,20 @@ impl<D: WindowFile<F> + Drop, F: Found> OpenFiles<D, F> {
         ensures clean { self.new.is_worn ≡ false → AreClean D.Disk.is_clean self.new.kept.files
             → IsTrue (D.Disk.is_clean file) × AreClean D.Disk.is_clean self.old.kept.files }
         ensures worn { self.new.is_worn ≡ false → self.old.is_worn ≡ false }
+        ensures calm { OnOk result (self.old.is_worn ≡ false → AreClean D.Disk.is_clean self.old.kept.files → IsTrue (D.Disk.is_clean file)
+            → (self.new.is_worn ≡ false) × AreClean D.Disk.is_clean self.new.kept.files) }
+        ensures lost { OnErr result (self.new.is_worn ≡ true) }
     {
         if self.kept.has(name) {
             self.is_worn = true;
-            return;
+            return Err(io::ErrorKind::AlreadyExists.into());
         }
         match self.kept.put(name, file) {
-            Ok(()) => {}
-            Err(_lost) => self.is_worn = true,
+            Ok(()) => Ok(()),
+            Err(_lost) => {
+                self.is_worn = true;
+                Err(io::ErrorKind::OutOfMemory.into())
+            }
         }
     }
 }

@@ -23,3 +23,6 @@ pub returns-in-Err-clause-clean : goal.returns-in-Err-clause-clean
 returns-in-Err-clause-clean g c = λ clean.
     let before = rw c.count.ensures.open at clean in
     (c.lend.ensures.worn before.0, c.in-Err.ensures.clean before.0 before.1)
+
+pub returns-in-Ok-clause-calm : goal.returns-in-Ok-clause-calm
+returns-in-Ok-clause-calm g c = λ clean. c.in-Ok.ensures.calm clean.0 clean.1
