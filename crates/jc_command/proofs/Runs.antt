@@ -135,25 +135,22 @@ pub err_of : {T U L N : Type 0} (made : Result U (FailedRun L N)) (r : Result T 
 err_of (Ok u) r Q is p = tt
 err_of (Err run) r Q is p = at_err r run.failure Q is p
 
-pub fails_one : {S C L N : Type 0} {deeds : Option (List Deed)} (begun : Begins) (g : Devices S C L N) (request asked : Request) (given old new : Option (List ℕ)) (run : FailedRun L N)
-    → asked ≡ request → HasFailed begun g request given old new deeds run → HasFailed begun g asked given old new deeds run
-fails_one {deeds = deeds} begun g request asked given old new run same fails = subst (λ (q : Request). HasFailed begun g q given old new deeds run) (sym same) fails
+pub fails_one : {S C L N Unopened : Type 0} {deeds : Option (List Deed)} (begun : Begins) (g : Devices S C L N) (request asked : Request) (given old new : Option (List ℕ)) (run : FailedRun L N)
+    → asked ≡ request → HasFailed begun g request given old new deeds Unopened run → HasFailed begun g asked given old new deeds Unopened run
+fails_one {Unopened = Unopened} {deeds = deeds} begun g request asked given old new run same fails =
+    subst (λ (q : Request). HasFailed begun g q given old new deeds Unopened run) (sym same) fails
 
 -- what is made of an error is what the request fails by
-pub fails_as : {S C L N T U : Type 0} (begun : Begins) (g : Devices S C L N) (made : Result U (FailedRun L N)) (r : Result T Failure) (request asked : Request) (given old new : Option (List ℕ)) (deeds : Option (List Deed))
-    → asked ≡ request → IfErr made (λ run. r ≡ Err run.failure) → IfErr made (λ run. FailsLeaving begun g request given old new deeds run.failure run.left)
+pub fails_as : {S C L N T U : Type 0} (begun : Begins) (g : Devices S C L N) (made : Result U (FailedRun L N)) (r : Result T Failure) (request asked : Request) (given old new : Option (List ℕ)) (deeds : Option (List Deed)) (Unopened : Type 0)
+    → asked ≡ request → IfErr made (λ run. r ≡ Err run.failure) → IfErr made (λ run. FailsLeaving begun g request given old new deeds Unopened run.failure run.left)
     → IfErr r (FailsBy begun.told request given) → IfErr r (λ failure. status_of failure ≢ Failed → Keeps old new)
-    → IfErr made (HasFailed begun g asked given old new deeds)
-fails_as begun g (Ok u) r request asked given old new deeds same is leaves fails keeps = tt
-fails_as begun g (Err run) r request asked given old new deeds same is leaves fails keeps = fails_one begun g request asked given old new run same (record {
+    → IfErr made (HasFailed begun g asked given old new deeds Unopened)
+fails_as begun g (Ok u) r request asked given old new deeds Unopened same is leaves fails keeps = tt
+fails_as begun g (Err run) r request asked given old new deeds Unopened same is leaves fails keeps = fails_one begun g request asked given old new run same (record {
   why = at_err r run.failure (FailsBy begun.told request given) is fails;
   leaves = leaves;
   kept = at_err r run.failure (λ failure. status_of failure ≢ Failed → Keeps old new) is keeps;
 })
-
-pub err_and : {U E : Type 0} (made : Result U E) (P Q : E → Type 0) → IsErrAnd made P → ((e : E) → P e → Q e) → IfErr made Q
-err_and (Ok u) P Q is each = absurd is
-err_and (Err e) P Q is each = each e is
 
 pub err_is : {U E : Type 0} (made : Result U E) (run : E) (Q : E → Type 0) → IsErrAnd made (λ e. e ≡ run) → Q run → IfErr made Q
 err_is (Ok u) run Q is it = absurd is
@@ -370,13 +367,13 @@ stops_answered told words k r given output output' errors errors' asked mistaken
     by_write (Err why) fact = inl (ap status_of fact)
 
 -- ... and leaves nothing of a database: help was printed, or nothing was, since they are wrong or there is no memory
-pub left_answered : {S C L N : Type 0} (begun : Begins) (g : Devices S C L N) (words : List Text) (k : ErrorKind) (r : Result Status Failure) (given output output' : Option (List ℕ)) (status : Status) (left : Option (NotedLeft L N))
-    → left ≡ None → (k ≡ kind.OutOfMemory) ⊎ AreAnswered words k
+pub left_answered : {S C L N Unopened : Type 0} (begun : Begins) (g : Devices S C L N) (words : List Text) (k : ErrorKind) (r : Result Status Failure) (given output output' : Option (List ℕ)) (status : Status) (left : Option (NotedLeft L N))
+    → Unopened → left ≡ None → (k ≡ kind.OutOfMemory) ⊎ AreAnswered words k
     → (¬ IsAskedFor k → k ≢ kind.OutOfMemory → (r ≡ Ok Misused) × Keeps output output')
     → (k ≡ kind.OutOfMemory → (r ≡ Err failures.OutOfMemory) × Keeps output output')
     → (r ≡ Err failures.OutOfMemory → status ≡ Failed)
-    → FailsAsked begun g words given output output' begun.deeds status left
-left_answered begun g words k r given output output' status left none answered mistaken memory fails = inl (ends answered, (refl, none))
+    → FailsAsked begun g words given output output' begun.deeds Unopened status left
+left_answered begun g words k r given output output' status left unopened none answered mistaken memory fails = inl (ends answered, (refl, (unopened, none)))
   where
     Ends : Type 0
     Ends = AskForHelp words ⊎ (Keeps output output' × (AreWrong words ⊎ (status ≡ Failed)))
@@ -392,12 +389,12 @@ left_answered begun g words k r given output output' status left none answered m
     ]
 
 -- the status that a number says, whether it is performed or fails
-pub either_by_number : {S C L N : Type 0} (begun : Begins) (g : Devices S C L N) (left : Leaves C N) (words texts : List Text) (given output output' : Option (List ℕ)) (deeds : Option (List Deed)) (n : ℕ)
+pub either_by_number : {S C L N Unopened : Type 0} (begun : Begins) (g : Devices S C L N) (left : Leaves C N) (words texts : List Text) (given output output' : Option (List ℕ)) (deeds : Option (List Deed)) (n : ℕ)
     (status wanted : Status) (handed : Option (NotedLeft L N)) → texts ≡ words → n ≡ number_of status → n ≡ number_of wanted
-    → PerformsAsked begun g left texts given output output' status ⊎ FailsAsked begun g texts given output output' deeds status handed
-    → PerformsAsked begun g left words given output output' wanted ⊎ FailsAsked begun g words given output output' deeds wanted handed
-either_by_number begun g left words texts given output output' deeds n status wanted handed same is wants ends =
-    subst₂ (λ (t : List Text) (s : Status). PerformsAsked begun g left t given output output' s ⊎ FailsAsked begun g t given output output' deeds s handed)
+    → PerformsAsked begun g left texts given output output' status ⊎ FailsAsked begun g texts given output output' deeds Unopened status handed
+    → PerformsAsked begun g left words given output output' wanted ⊎ FailsAsked begun g words given output output' deeds Unopened wanted handed
+either_by_number {Unopened = Unopened} begun g left words texts given output output' deeds n status wanted handed same is wants ends =
+    subst₂ (λ (t : List Text) (s : Status). PerformsAsked begun g left t given output output' s ⊎ FailsAsked begun g t given output output' deeds Unopened s handed)
     same (same_status status wanted (sym is ∙ wants)) ends
 
 -- ---- over a union of databases

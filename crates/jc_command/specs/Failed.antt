@@ -34,33 +34,33 @@ module _ {S C L N : Type 0} (begun : Begins) (g : Devices S C L N) where
     pub owner : (s : Id128) → g.ledger.owner notes s ≡ begun.owner s
     pub came : (e : LogEntry) → g.ledger.came notes e ↔ begun.came e
 
-  -- No database was opened, no file was made or changed but those of notes, and nothing is handed back.
-  abbrev pub BeginsNothing : (deeds : Option (List Deed)) → Option (NotedLeft L N) → Type 0
-  BeginsNothing deeds left = (deeds ≡ begun.deeds) × (left ≡ None)
+  -- No database was opened, and no notes were, no file was made or changed, and nothing is handed back.
+  abbrev pub BeginsNothing : (deeds : Option (List Deed)) → (Unopened : Type 0) → Option (NotedLeft L N) → Type 0
+  BeginsNothing deeds Unopened left = (deeds ≡ begun.deeds) × (Unopened × (left ≡ None))
 
-  -- What a request leaves that fails. Of a union there may be nothing, for a reason for which its notes aren't opened: then no
-  -- database was opened, and nothing was printed. Or the notes are as they were opened, as if its present database wasn't: nothing was printed
+  -- What a request leaves that fails, and whether its notes were opened. Of a union there may be nothing, for a reason for which
+  -- they aren't: then nothing was begun, and nothing was printed. Or the notes are as they were opened, as if its present database wasn't: nothing was printed
   -- either, and what is left of the database's files is handed back. Otherwise what is left of both has what was printed. Of
   -- other requests nothing is handed back.
-  abbrev pub FailsLeaving : Request → (given old new : Option (List ℕ)) → (deeds : Option (List Deed)) → Failure → Option (NotedLeft L N) → Type 0
-  FailsLeaving (CollectIntoUnion database tables list sequences most_windows then_export) given old new deeds failure left =
-      (BeginsNothing deeds left × (IsUnopened sequences failure × Keeps old new))
+  abbrev pub FailsLeaving : Request → (given old new : Option (List ℕ)) → (deeds : Option (List Deed)) → (Unopened : Type 0) → Failure → Option (NotedLeft L N) → Type 0
+  FailsLeaving (CollectIntoUnion database tables list sequences most_windows then_export) given old new deeds Unopened failure left =
+      (BeginsNothing deeds Unopened left × (IsUnopened sequences failure × Keeps old new))
       ⊎ IsSomeAnd left (λ it.
       (AreAsBegun it.ledger × (IsLeftUnopened g.database tables database.now begun.image failure begun.deeds deeds it.files × Keeps old new))
       ⊎ IsSomeAnd it.files (λ files. LeavesUnion begun g tables list.now most_windows given
       (λ text Holds. PrintsFront Holds old new) failure (handed_back g.database begun.image files) it.ledger))
-  FailsLeaving _ given old new deeds failure left = left ≡ None
+  FailsLeaving _ given old new deeds Unopened failure left = left ≡ None
 
   -- A request fails for such a reason, and leaves that. Unless a device or memory failed, nothing was printed.
-  pub record HasFailed (request : Request) (given old new : Option (List ℕ)) (deeds : Option (List Deed)) (run : FailedRun L N) : Type 0 where
+  pub record HasFailed (request : Request) (given old new : Option (List ℕ)) (deeds : Option (List Deed)) (Unopened : Type 0) (run : FailedRun L N) : Type 0 where
     pub why : FailsBy begun.told request given run.failure
-    pub leaves : FailsLeaving request given old new deeds run.failure run.left
+    pub leaves : FailsLeaving request given old new deeds Unopened run.failure run.left
     pub kept : status_of run.failure ≢ Failed → Keeps old new
 
   -- The arguments ask for nothing that is begun: for help, or they are wrong, or memory was refused, and nothing was printed; or
   -- they ask for something that fails for such a reason, with this status, and leaves that.
-  abbrev pub FailsAsked : List Text → (given old new : Option (List ℕ)) → (deeds : Option (List Deed)) → Status → Option (NotedLeft L N) → Type 0
-  FailsAsked words given old new deeds status left =
-      ((AskForHelp words ⊎ (Keeps old new × (AreWrong words ⊎ (status ≡ Failed)))) × BeginsNothing deeds left)
+  abbrev pub FailsAsked : List Text → (given old new : Option (List ℕ)) → (deeds : Option (List Deed)) → (Unopened : Type 0) → Status → Option (NotedLeft L N) → Type 0
+  FailsAsked words given old new deeds Unopened status left =
+      ((AskForHelp words ⊎ (Keeps old new × (AreWrong words ⊎ (status ≡ Failed)))) × BeginsNothing deeds Unopened left)
       ⊎ ((request : Request) × AskFor words request
-      × ((failure : Failure) × (status ≡ status_of failure) × FailsBy begun.told request given failure × FailsLeaving request given old new deeds failure left))
+      × ((failure : Failure) × (status ≡ status_of failure) × FailsBy begun.told request given failure × FailsLeaving request given old new deeds Unopened failure left))

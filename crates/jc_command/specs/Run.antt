@@ -308,6 +308,15 @@ DoesFor found ListCodes given old new = new ≡ old
 abbrev pub DoesAsked : (found : List ℕ → Option (List ℕ)) → List Text → (given : Option (List ℕ)) → (old new : Option (List Deed)) → Type 0
 DoesAsked found words given old new = (new ≡ old) ⊎ ((request : Request) × AskFor words request × DoesFor found request given old new)
 
+-- Only the run over a union opens notes.
+abbrev pub OpensNotes : Request → Type 0
+OpensNotes (CollectIntoUnion database tables list sequences most_windows then_export) = ⊤
+OpensNotes _ = ⊥
+
+-- Arguments ask for one.
+abbrev pub AskToOpenNotes : List Text → Type 0
+AskToOpenNotes words = (request : Request) × AskFor words request × OpensNotes request
+
 -- ---- a run
 
 -- The arguments ask for something, and it is performed.

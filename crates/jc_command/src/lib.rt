@@ -7,5 +7,5 @@ mod notes;
 mod run;
 
 pub use begun::{Begun, BegunBy};
-pub use note_folders::{NoteFolders, Sequences};
+pub use note_folders::{NoteFolders, Sequences, UnopenedNotes};
 pub use run::{Ended, command, run_command};

@@ -16,7 +16,7 @@ use std::io::{Read, Write};
 #[tactic(auto, using(crate::proofs::NotesFailing::by_lines, crate::proofs::NotesFailing::by_work, jc_command_shared::specs::DeedLaws::nothing_changes))]
 pub(crate) fn work_on_notes<'w, Y: System, S: Begun, N: NoteFolders<S>, I: Read, O: Write>(
     rt: &mut Y,
-    folders: N,
+    folders: &N,
     sequences: &'w str,
     task: NotesTask,
     input: &mut I,
@@ -49,7 +49,7 @@ pub(crate) fn work_on_notes<'w, Y: System, S: Begun, N: NoteFolders<S>, I: Read,
 #[tactic(auto, using(crate::proofs::NotesFailing::by_work))]
 pub(crate) fn list_all_owners<'w, Y: System, S: Begun, N: NoteFolders<S>, O: Write>(
     rt: &Y,
-    folders: N,
+    folders: &N,
     sequences: &'w str,
     output: &mut O,
 ) -> Result<Status, Failure<'w>>
@@ -66,7 +66,7 @@ pub(crate) fn list_all_owners<'w, Y: System, S: Begun, N: NoteFolders<S>, O: Wri
 #[tactic(auto, using(crate::proofs::NotesFailing::by_work, jc_command_shared::specs::DeedLaws::nothing_changes))]
 pub(crate) fn rename_all<'w, Y: System, S: Begun, N: NoteFolders<S>, O: Write>(
     rt: &mut Y,
-    folders: N,
+    folders: &N,
     sequences: &'w str,
     old: &str,
     new: &str,

@@ -7,7 +7,7 @@ ghost use Rattle.jc_command_args.specs.Answer.{IsAskedFor};
 ghost use Rattle.jc_command_shared.specs.Failure.{status_of};
 ghost use Rattle.jc_command_shared.specs.Status.{number_of};
 ghost use Rattle.jc_command.specs.Failed.{FailsAsked, HasFailed};
-ghost use Rattle.jc_command.specs.Run.{DoesAsked, DoesFor, Ends, EndsWithin, HasPerformed, PerformsAsked, Stops, begins_with, devices, leaves};
+ghost use Rattle.jc_command.specs.Run.{AskToOpenNotes, DoesAsked, DoesFor, Ends, EndsWithin, HasPerformed, OpensNotes, PerformsAsked, Stops, begins_with, devices, leaves};
 
 use crate::begun::{Begun, BegunBy};
 use crate::note_folders::{NoteFolders, Sequences};
@@ -28,13 +28,15 @@ use jc_sequences::Folders;
 use std::io::Read;
 
 /// What a run ended with: its status, and the files of its database, closed, if it had one open, with the notes of
-/// sequences, if it had those. Of a run over a union that failed it has what is left of both.
+/// sequences, if it had those. Of a run over a union that failed it has what is left of both. Of one that opened no notes it
+/// has their folders.
 #[derive(Drop)]
-pub struct Ended<C: Drop, R: Drop, L: Ledger + Drop> {
+pub struct Ended<C: Drop, R: Drop, L: Ledger + Drop, N: Drop> {
     pub status: u8,
     pub files: Option<C>,
     pub ledger: Option<L>,
     pub left: Option<NotedLeft<R, L>>,
+    pub folders: Option<N>,
 }
 
 /// What was asked for is done.
@@ -201,7 +203,7 @@ pub fn run_command<
     input: &mut I,
     output: &mut O,
     errors: &mut E,
-) -> Ended<F::Files, F::Left, N::Notes>
+) -> Ended<F::Files, F::Left, N::Notes, N>
     ensures status { result.status ≤ 4 }
     // Where something failed, it says so only if files come back: what was stored and printed before is there too.
     ensures ended { (status : Status) → (status ≡ Status.Failed → IsSome result.files) → result.status ≡ number_of status
@@ -217,13 +219,16 @@ pub fn run_command<
         (O.contents output.old) (O.contents output.new) status
         ⊎ FailsAsked (begins_with F.first S.windows S.finished S.aside S.came Y.told Y.found (Y.deeds rt.old) (O.entry_shape output.old))
         (devices F.in_files ⟦<N::Notes as Ledger>⟧) (map string_bytes words.items) (I.remaining input.old)
-        (O.contents output.old) (O.contents output.new) (Y.deeds rt.new) status result.left }
+        (O.contents output.old) (O.contents output.new) (Y.deeds rt.new) (result.folders ≡ Some folders) status result.left }
+    // However it ends, no notes were opened if their folders come back, and they do unless it is a run over a union.
+    ensures unopened { AskToOpenNotes (map string_bytes words.items) ⊎ (result.folders ≡ Some folders) }
     // However it ends, this alone was done to files.
     ensures touched { DoesAsked Y.found (map string_bytes words.items) (I.remaining input.old) (Y.deeds rt.old) (Y.deeds rt.new) }
 {
+    let mut folders = Some(folders);
     match answered::<_, F, S, _, _, _, _>(
         rt,
-        folders,
+        &mut folders,
         start,
         words.as_slice(),
         input,
@@ -235,12 +240,14 @@ pub fn run_command<
             files: done.files,
             ledger: done.ledger,
             left: None,
+            folders,
         },
         Err(run) => Ended {
             status: run.failure.report(errors).number(),
             files: None,
             ledger: None,
             left: run.left,
+            folders,
         },
     }
 }
@@ -257,13 +264,14 @@ fn answered<
     E: Errors,
 >(
     rt: &mut Y,
-    folders: N,
+    folders: &mut Option<N>,
     start: F::Start,
     words: &'w [String],
     input: &mut I,
     output: &mut O,
     errors: &mut E,
 ) -> Result<Done<F::Files, N::Notes>, FailedRun<'w, F::Left, N::Notes>>
+    requires { IsSome folders.old }
     ensures ended { IfOk result (λ done. Ends (begins_with F.first S.windows S.finished S.aside S.came Y.told Y.found (Y.deeds rt.old) (O.entry_shape output.old))
         (devices F.in_files ⟦<N::Notes as Ledger>⟧) (leaves done.files done.ledger (Y.deeds rt.new)) (map string_bytes words.entry.now) (I.remaining input.old)
         (O.contents output.old) (O.contents output.new) (E.contents errors.old) (E.contents errors.new) done.status) }
@@ -275,10 +283,11 @@ fn answered<
         (O.contents output.old) (O.contents output.new) done.status
         ⊎ FailsAsked (begins_with F.first S.windows S.finished S.aside S.came Y.told Y.found (Y.deeds rt.old) (O.entry_shape output.old))
         (devices F.in_files ⟦<N::Notes as Ledger>⟧) (map string_bytes words.entry.now) (I.remaining input.old)
-        (O.contents output.old) (O.contents output.new) (Y.deeds rt.new) done.status None) }
+        (O.contents output.old) (O.contents output.new) (Y.deeds rt.new) (folders.new ≡ folders.old) done.status None) }
     ensures left { IfErr result (λ run. FailsAsked (begins_with F.first S.windows S.finished S.aside S.came Y.told Y.found (Y.deeds rt.old) (O.entry_shape output.old))
         (devices F.in_files ⟦<N::Notes as Ledger>⟧) (map string_bytes words.entry.now) (I.remaining input.old)
-        (O.contents output.old) (O.contents output.new) (Y.deeds rt.new) (status_of run.failure) run.left) }
+        (O.contents output.old) (O.contents output.new) (Y.deeds rt.new) (folders.new ≡ folders.old) (status_of run.failure) run.left) }
+    ensures unopened { AskToOpenNotes (map string_bytes words.entry.now) ⊎ (folders.new ≡ folders.old) }
     ensures touched { DoesAsked Y.found (map string_bytes words.entry.now) (I.remaining input.old) (Y.deeds rt.old) (Y.deeds rt.new) }
 {
     match parse(rt.alloc(), words) {
@@ -301,18 +310,20 @@ fn perform<
     E: Errors,
 >(
     rt: &mut Y,
-    folders: N,
+    folders: &mut Option<N>,
     start: F::Start,
     request: Request<'w>,
     input: &mut I,
     output: &mut O,
     errors: &mut E,
 ) -> Result<Done<F::Files, N::Notes>, FailedRun<'w, F::Left, N::Notes>>
+    requires { IsSome folders.old }
     ensures performed { IfOk result (λ done. HasPerformed (begins_with F.first S.windows S.finished S.aside S.came Y.told Y.found (Y.deeds rt.old) (O.entry_shape output.old))
         (devices F.in_files ⟦<N::Notes as Ledger>⟧) (leaves done.files done.ledger (Y.deeds rt.new)) request.entry (I.remaining input.old)
         (O.contents output.old) (O.contents output.new) (E.contents errors.old) (E.contents errors.new) done.status) }
     ensures failed { IfErr result (HasFailed (begins_with F.first S.windows S.finished S.aside S.came Y.told Y.found (Y.deeds rt.old) (O.entry_shape output.old))
-        (devices F.in_files ⟦<N::Notes as Ledger>⟧) request.entry (I.remaining input.old) (O.contents output.old) (O.contents output.new) (Y.deeds rt.new)) }
+        (devices F.in_files ⟦<N::Notes as Ledger>⟧) request.entry (I.remaining input.old) (O.contents output.old) (O.contents output.new) (Y.deeds rt.new) (folders.new ≡ folders.old)) }
+    ensures unopened { OpensNotes request.entry ⊎ (folders.new ≡ folders.old) }
     // However it ends, this alone was done to files.
     ensures touched { DoesFor Y.found request.entry (I.remaining input.old) (Y.deeds rt.old) (Y.deeds rt.new) }
 {
@@ -387,7 +398,13 @@ fn perform<
             most_windows,
             then_export,
         } => {
-            let ledger = folders.open(sequences)?;
+            let ledger = match folders.take().unwrap().open(sequences) {
+                Ok(ledger) => ledger,
+                Err(unopened) => {
+                    *folders = Some(unopened.folders);
+                    return Err(FailedRun::from(unopened.failure));
+                }
+            };
             let run = collect_into_union::<_, F, _, BegunBy<S>, _, _, _>(
                 rt,
                 start,
@@ -430,18 +447,23 @@ fn perform<
             Done::examined(examined, None)
         }
         Request::Notes { sequences, task } => {
+            let folders = folders.as_ref().unwrap();
             Done::without(work_on_notes::<_, S, _, _, _>(
                 rt, folders, sequences, task, input, output,
             ))
         }
         Request::ListOwners { sequences } => {
+            let folders = folders.as_ref().unwrap();
             Done::without(list_all_owners::<_, S, _, _>(rt, folders, sequences, output))
         }
         Request::RenameOwner {
             sequences,
             old,
             new,
-        } => Done::succeeded(rename_all::<_, S, _, _>(rt, folders, sequences, old, new, output)),
+        } => {
+            let folders = folders.as_ref().unwrap();
+            Done::succeeded(rename_all::<_, S, _, _>(rt, folders, sequences, old, new, output))
+        }
         Request::ReleaseSequence {
             sequences,
             sequence,

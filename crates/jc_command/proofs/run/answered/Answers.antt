@@ -1,5 +1,5 @@
 -- A request is performed; what clap answers in place of one is printed.
-use Rattle.std.proofs.Common.{◌≡◌, ◌∙◌, None, Result, Ok, Err, inl, inr, map, refl, string_bytes, subst, sym}
+use Rattle.std.proofs.Common.{◌≡◌, ◌∙◌, None, Result, Ok, Err, inl, inr, map, refl, string_bytes, subst, sym, ⊎_elim}
 use Rattle.std.specs.Prelude.{IfErr}
 use Rattle.std.proofs.lemmas.Result.{IfErr-weaker, IfOk-weaker}
 use Rattle.clap.specs.Words.{kind_of}
@@ -58,6 +58,10 @@ returns-in-Err-clause-stopped g c =
 pub returns-in-Ok-clause-touched : goal.returns-in-Ok-clause-touched
 returns-in-Ok-clause-touched g c = inr (c.in-Ok.request, c.in-Ok.ensures.request, c.perform.ensures.touched)
 
+pub returns-in-Ok-clause-unopened : goal.returns-in-Ok-clause-unopened
+returns-in-Ok-clause-unopened g c =
+    ⊎_elim (λ opens. inl (c.in-Ok.request, c.in-Ok.ensures.request, opens)) (λ same. inr same) c.perform.ensures.unopened
+
 pub returns-in-Ok-clause-performed : goal.returns-in-Ok-clause-performed
 returns-in-Ok-clause-performed g c =
     IfOk-weaker c.perform.result _ _ (λ done it. inl (c.in-Ok.request, c.in-Ok.ensures.request, it.performs)) c.perform.ensures.performed
@@ -72,7 +76,7 @@ returns-in-Err-clause-performed g c =
     ok_of c.without.result c.answer_words.result _ _ c.without.ensures.done
     (λ done status was same. inr (left_answered (begins_with g.F.OpenFromFiles.first g.S.Begun.windows g.S.Begun.finished g.S.Begun.aside g.S.Begun.came g.Y.System.told g.Y.System.found (g.Y.System.deeds c.args.rt.now) (g.O.Output.entry_shape c.args.output.now)) (devices g.F.StoreInFiles.in_files g.N.Notes.Ledger)
     (map string_bytes c.args.words.now) (kind_of c.in-Err.answer) c.answer_words.result (g.I.Read.remaining c.args.input.now)
-    (g.O.Write.contents c.args.output.now) (g.O.Write.contents c.answer_words.new.output) done.status None refl c.in-Err.ensures.answer prints.mistaken prints.memory
+    (g.O.Write.contents c.args.output.now) (g.O.Write.contents c.answer_words.new.output) done.status None refl refl c.in-Err.ensures.answer prints.mistaken prints.memory
     (λ refused. let clash : Ok status ≡ Err OutOfMemory = sym was ∙ refused in cc)))
 
 pub returns-in-Err-clause-left : goal.returns-in-Err-clause-left
@@ -81,6 +85,6 @@ returns-in-Err-clause-left g c =
     IfErr-both c.without.result _ _ _
     (λ run same none. left_answered (begins_with g.F.OpenFromFiles.first g.S.Begun.windows g.S.Begun.finished g.S.Begun.aside g.S.Begun.came g.Y.System.told g.Y.System.found (g.Y.System.deeds c.args.rt.now) (g.O.Output.entry_shape c.args.output.now)) (devices g.F.StoreInFiles.in_files g.N.Notes.Ledger)
     (map string_bytes c.args.words.now) (kind_of c.in-Err.answer) c.answer_words.result (g.I.Read.remaining c.args.input.now)
-    (g.O.Write.contents c.args.output.now) (g.O.Write.contents c.answer_words.new.output) _ run.left none c.in-Err.ensures.answer prints.mistaken prints.memory
+    (g.O.Write.contents c.args.output.now) (g.O.Write.contents c.answer_words.new.output) _ run.left refl none c.in-Err.ensures.answer prints.mistaken prints.memory
     (λ refused. subst (λ (r : Result Status Failure). IfErr r (λ failure. status_of failure ≡ Failed)) (sym refused ∙ same) refl))
     c.without.ensures.failed c.without.ensures.left

@@ -1,10 +1,10 @@
 -- What each request comes to, from what its command does, and what is made of that.
-use Rattle.std.proofs.Common.{inl, inr, refl, subst, sym}
+use Rattle.std.proofs.Common.{◌∙◌, Some, ap, inl, inr, refl, subst, sym}
 use Rattle.std.proofs.KnownBytes.{Keeps-refl}
 use Rattle.std.proofs.lemmas.Result.{IfErr-weaker}
 use Rattle.jc_collector.specs.UnionRunLaws.{runs_left, runs_noted, runs_printed, runs_quiet, runs_stored, runs_untouched}
 use Rattle.jc_command.proofs.NotesFailing.{by_name, releases}
-use Rattle.jc_command.proofs.Runs.{IfErr-both, at_ok, by_file, by_folder, by_upload, collects_as, does_as, err_and, err_is, fails_as, fails_one, leads_from, ok_of, performs_as, performs_still, same_start, unless_failed, write_fails}
+use Rattle.jc_command.proofs.Runs.{IfErr-both, at_ok, by_file, by_folder, by_upload, collects_as, does_as, err_is, fails_as, fails_one, leads_from, ok_of, performs_as, performs_still, same_start, unless_failed, write_fails}
 use Rattle.jc_command.specs.Failed.{AreAsBegun, IsUnopened}
 use Rattle.jc_command.specs.Run.{begins_with, devices}
 use Rattle.jc_command.proofs.run.perform.Goals as goal
@@ -18,7 +18,7 @@ returns-in-Verify-clause-performed g c =
 
 pub returns-in-Verify-clause-failed : goal.returns-in-Verify-clause-failed
 returns-in-Verify-clause-failed g c =
-    fails_as _ _ c.without.result c.verify.result _ _ _ _ _ _ c.in-Verify.is c.without.ensures.failed c.without.ensures.left
+    fails_as _ _ c.without.result c.verify.result _ _ _ _ _ _ _ c.in-Verify.is c.without.ensures.failed c.without.ensures.left
     (IfErr-weaker c.verify.result _ _ (by_file c.in-Verify.file) c.verify.ensures.failed) (unless_failed c.verify.result _ _ c.verify.ensures.untouched)
 
 pub returns-in-Verify-clause-touched : goal.returns-in-Verify-clause-touched
@@ -33,7 +33,7 @@ returns-in-Inspect-clause-performed g c =
 
 pub returns-in-Inspect-clause-failed : goal.returns-in-Inspect-clause-failed
 returns-in-Inspect-clause-failed g c =
-    fails_as _ _ c.without-in-Inspect.result c.inspect.result _ _ _ _ _ _ c.in-Inspect.is c.without-in-Inspect.ensures.failed c.without-in-Inspect.ensures.left
+    fails_as _ _ c.without-in-Inspect.result c.inspect.result _ _ _ _ _ _ _ c.in-Inspect.is c.without-in-Inspect.ensures.failed c.without-in-Inspect.ensures.left
     (IfErr-weaker c.inspect.result _ _ (by_file c.in-Inspect.file) c.inspect.ensures.failed) (unless_failed c.inspect.result _ _ c.inspect.ensures.untouched)
 
 pub returns-in-Inspect-clause-touched : goal.returns-in-Inspect-clause-touched
@@ -48,7 +48,7 @@ returns-in-Upload-clause-performed g c =
 
 pub returns-in-Upload-clause-failed : goal.returns-in-Upload-clause-failed
 returns-in-Upload-clause-failed g c =
-    fails_as _ _ c.succeeded.result c.upload.result _ _ _ _ _ _ c.in-Upload.is c.succeeded.ensures.failed c.succeeded.ensures.left
+    fails_as _ _ c.succeeded.result c.upload.result _ _ _ _ _ _ _ c.in-Upload.is c.succeeded.ensures.failed c.succeeded.ensures.left
     c.upload.ensures.failed (unless_failed c.upload.result _ _ c.upload.ensures.untouched)
 
 pub returns-in-Upload-clause-touched : goal.returns-in-Upload-clause-touched
@@ -63,7 +63,7 @@ returns-in-Ack-clause-performed g c =
 
 pub returns-in-Ack-clause-failed : goal.returns-in-Ack-clause-failed
 returns-in-Ack-clause-failed g c =
-    fails_as _ _ c.succeeded-in-Ack.result c.ack.result _ _ _ _ _ _ c.in-Ack.is c.succeeded-in-Ack.ensures.failed c.succeeded-in-Ack.ensures.left
+    fails_as _ _ c.succeeded-in-Ack.result c.ack.result _ _ _ _ _ _ _ c.in-Ack.is c.succeeded-in-Ack.ensures.failed c.succeeded-in-Ack.ensures.left
     c.ack.ensures.failed (unless_failed c.ack.result _ _ c.ack.ensures.untouched)
 
 pub returns-in-Ack-clause-touched : goal.returns-in-Ack-clause-touched
@@ -78,7 +78,7 @@ returns-in-Acknowledged-clause-performed g c =
 
 pub returns-in-Acknowledged-clause-failed : goal.returns-in-Acknowledged-clause-failed
 returns-in-Acknowledged-clause-failed g c =
-    fails_as _ _ c.without-in-Acknowledged.result c.acknowledged.result _ _ _ _ _ _ c.in-Acknowledged.is c.without-in-Acknowledged.ensures.failed c.without-in-Acknowledged.ensures.left
+    fails_as _ _ c.without-in-Acknowledged.result c.acknowledged.result _ _ _ _ _ _ _ c.in-Acknowledged.is c.without-in-Acknowledged.ensures.failed c.without-in-Acknowledged.ensures.left
     (IfErr-weaker c.acknowledged.result _ _ (by_upload c.in-Acknowledged.upload) c.acknowledged.ensures.failed) (unless_failed c.acknowledged.result _ _ c.acknowledged.ensures.untouched)
 
 pub returns-in-Acknowledged-clause-touched : goal.returns-in-Acknowledged-clause-touched
@@ -101,7 +101,7 @@ returns-in-Collect-clause-performed g c =
 pub returns-in-Collect-clause-failed : goal.returns-in-Collect-clause-failed
 returns-in-Collect-clause-failed g c =
     let failed = rw c.as_slice-uploads.ensures.value at c.collect-closed.ensures.failed in
-    fails_as _ _ c.closed.result c.collect-closed.result _ _ _ _ _ _ c.in-Collect.is c.closed.ensures.failed c.closed.ensures.left
+    fails_as _ _ c.closed.result c.collect-closed.result _ _ _ _ _ _ _ c.in-Collect.is c.closed.ensures.failed c.closed.ensures.left
     failed c.collect-closed.ensures.untouched
 
 pub returns-in-Collect-clause-touched : goal.returns-in-Collect-clause-touched
@@ -121,7 +121,7 @@ returns-in-CollectListed-clause-performed g c =
 
 pub returns-in-CollectListed-clause-failed : goal.returns-in-CollectListed-clause-failed
 returns-in-CollectListed-clause-failed g c =
-    fails_as _ _ c.closed-in-CollectListed.result c.collect_from_list-closed.result _ _ _ _ _ _ c.in-CollectListed.is c.closed-in-CollectListed.ensures.failed c.closed-in-CollectListed.ensures.left
+    fails_as _ _ c.closed-in-CollectListed.result c.collect_from_list-closed.result _ _ _ _ _ _ _ c.in-CollectListed.is c.closed-in-CollectListed.ensures.failed c.closed-in-CollectListed.ensures.left
     c.collect_from_list-closed.ensures.failed c.collect_from_list-closed.ensures.untouched
 
 pub returns-in-CollectListed-clause-touched : goal.returns-in-CollectListed-clause-touched
@@ -136,7 +136,7 @@ returns-in-Export-clause-performed g c =
 
 pub returns-in-Export-clause-failed : goal.returns-in-Export-clause-failed
 returns-in-Export-clause-failed g c =
-    fails_as _ _ c.listed.result c.export-closed.result _ _ _ _ _ _ c.in-Export.is c.listed.ensures.failed c.listed.ensures.left
+    fails_as _ _ c.listed.result c.export-closed.result _ _ _ _ _ _ _ c.in-Export.is c.listed.ensures.failed c.listed.ensures.left
     c.export-closed.ensures.failed c.export-closed.ensures.untouched
 
 pub returns-in-Export-clause-touched : goal.returns-in-Export-clause-touched
@@ -151,7 +151,7 @@ returns-in-Show-clause-performed g c =
 
 pub returns-in-Show-clause-failed : goal.returns-in-Show-clause-failed
 returns-in-Show-clause-failed g c =
-    fails_as _ _ c.listed-in-Show.result c.show-closed.result _ _ _ _ _ _ c.in-Show.is c.listed-in-Show.ensures.failed c.listed-in-Show.ensures.left
+    fails_as _ _ c.listed-in-Show.result c.show-closed.result _ _ _ _ _ _ _ c.in-Show.is c.listed-in-Show.ensures.failed c.listed-in-Show.ensures.left
     c.show-closed.ensures.failed c.show-closed.ensures.untouched
 
 pub returns-in-Show-clause-touched : goal.returns-in-Show-clause-touched
@@ -172,7 +172,7 @@ returns-in-Check-clause-performed g c =
 
 pub returns-in-Check-clause-failed : goal.returns-in-Check-clause-failed
 returns-in-Check-clause-failed g c =
-    fails_as _ _ c.examined.result c.check-examined.result _ _ _ _ _ _ c.in-Check.is c.examined.ensures.failed c.examined.ensures.left
+    fails_as _ _ c.examined.result c.check-examined.result _ _ _ _ _ _ _ c.in-Check.is c.examined.ensures.failed c.examined.ensures.left
     c.check-examined.ensures.failed c.check-examined.ensures.untouched
 
 pub returns-in-Check-clause-touched : goal.returns-in-Check-clause-touched
@@ -187,7 +187,7 @@ returns-in-CheckNoted-clause-performed g c =
 
 pub returns-in-CheckNoted-clause-failed : goal.returns-in-CheckNoted-clause-failed
 returns-in-CheckNoted-clause-failed g c =
-    fails_as _ _ c.examined-in-CheckNoted.result c.check_noted-examined.result _ _ _ _ _ _ c.in-CheckNoted.is c.examined-in-CheckNoted.ensures.failed c.examined-in-CheckNoted.ensures.left
+    fails_as _ _ c.examined-in-CheckNoted.result c.check_noted-examined.result _ _ _ _ _ _ _ c.in-CheckNoted.is c.examined-in-CheckNoted.ensures.failed c.examined-in-CheckNoted.ensures.left
     c.check_noted-examined.ensures.failed c.check_noted-examined.ensures.untouched
 
 pub returns-in-CheckNoted-clause-touched : goal.returns-in-CheckNoted-clause-touched
@@ -202,7 +202,7 @@ returns-in-Notes-clause-performed g c =
 
 pub returns-in-Notes-clause-failed : goal.returns-in-Notes-clause-failed
 returns-in-Notes-clause-failed g c =
-    fails_as _ _ c.without-in-Notes.result c.work_on_notes.result _ _ _ _ _ _ c.in-Notes.is c.without-in-Notes.ensures.failed c.without-in-Notes.ensures.left
+    fails_as _ _ c.without-in-Notes.result c.work_on_notes.result _ _ _ _ _ _ _ c.in-Notes.is c.without-in-Notes.ensures.failed c.without-in-Notes.ensures.left
     c.work_on_notes.ensures.failed c.work_on_notes.ensures.untouched
 
 pub returns-in-Notes-clause-touched : goal.returns-in-Notes-clause-touched
@@ -217,7 +217,7 @@ returns-in-ListOwners-clause-performed g c =
 
 pub returns-in-ListOwners-clause-failed : goal.returns-in-ListOwners-clause-failed
 returns-in-ListOwners-clause-failed g c =
-    fails_as _ _ c.without-in-ListOwners.result c.list_all_owners.result _ _ _ _ _ _ c.in-ListOwners.is c.without-in-ListOwners.ensures.failed c.without-in-ListOwners.ensures.left
+    fails_as _ _ c.without-in-ListOwners.result c.list_all_owners.result _ _ _ _ _ _ _ c.in-ListOwners.is c.without-in-ListOwners.ensures.failed c.without-in-ListOwners.ensures.left
     c.list_all_owners.ensures.failed c.list_all_owners.ensures.untouched
 
 pub returns-in-ListOwners-clause-touched : goal.returns-in-ListOwners-clause-touched
@@ -232,7 +232,7 @@ returns-in-RenameOwner-clause-performed g c =
 
 pub returns-in-RenameOwner-clause-failed : goal.returns-in-RenameOwner-clause-failed
 returns-in-RenameOwner-clause-failed g c =
-    fails_as _ _ c.succeeded-in-RenameOwner.result c.rename_all.result _ _ _ _ _ _ c.in-RenameOwner.is c.succeeded-in-RenameOwner.ensures.failed c.succeeded-in-RenameOwner.ensures.left
+    fails_as _ _ c.succeeded-in-RenameOwner.result c.rename_all.result _ _ _ _ _ _ _ c.in-RenameOwner.is c.succeeded-in-RenameOwner.ensures.failed c.succeeded-in-RenameOwner.ensures.left
     c.rename_all.ensures.failed c.rename_all.ensures.untouched
 
 pub returns-in-RenameOwner-clause-touched : goal.returns-in-RenameOwner-clause-touched
@@ -247,7 +247,7 @@ returns-in-ReleaseSequence-clause-performed g c =
 
 pub returns-in-ReleaseSequence-clause-failed : goal.returns-in-ReleaseSequence-clause-failed
 returns-in-ReleaseSequence-clause-failed g c =
-    fails_as _ _ c.succeeded-in-ReleaseSequence.result c.release_sequence.result _ _ _ _ _ _ c.in-ReleaseSequence.is c.succeeded-in-ReleaseSequence.ensures.failed c.succeeded-in-ReleaseSequence.ensures.left
+    fails_as _ _ c.succeeded-in-ReleaseSequence.result c.release_sequence.result _ _ _ _ _ _ _ c.in-ReleaseSequence.is c.succeeded-in-ReleaseSequence.ensures.failed c.succeeded-in-ReleaseSequence.ensures.left
     (IfErr-both c.release_sequence.result _ _ _ (by_name c.in-ReleaseSequence.sequences.now c.in-ReleaseSequence.sequence.now) c.release_sequence.ensures.failed c.release_sequence.ensures.bad) c.release_sequence.ensures.untouched
 
 pub returns-in-ReleaseSequence-clause-touched : goal.returns-in-ReleaseSequence-clause-touched
@@ -272,7 +272,7 @@ returns-in-Migrate-clause-performed g c =
 
 pub returns-in-Migrate-clause-failed : goal.returns-in-Migrate-clause-failed
 returns-in-Migrate-clause-failed g c =
-    fails_as _ _ c.examined-in-Migrate.result c.migrate-examined.result _ _ _ _ _ _ c.in-Migrate.is c.examined-in-Migrate.ensures.failed c.examined-in-Migrate.ensures.left
+    fails_as _ _ c.examined-in-Migrate.result c.migrate-examined.result _ _ _ _ _ _ _ c.in-Migrate.is c.examined-in-Migrate.ensures.failed c.examined-in-Migrate.ensures.left
     c.migrate-examined.ensures.failed c.migrate-examined.ensures.untouched
 
 pub returns-in-Migrate-clause-touched : goal.returns-in-Migrate-clause-touched
@@ -287,7 +287,7 @@ returns-in-ListCodes-clause-performed g c =
 
 pub returns-in-ListCodes-clause-failed : goal.returns-in-ListCodes-clause-failed
 returns-in-ListCodes-clause-failed g c =
-    fails_as _ _ c.succeeded-in-ListCodes.result c.list_codes.result _ _ _ _ _ _ c.in-ListCodes.is c.succeeded-in-ListCodes.ensures.failed c.succeeded-in-ListCodes.ensures.left
+    fails_as _ _ c.succeeded-in-ListCodes.result c.list_codes.result _ _ _ _ _ _ _ c.in-ListCodes.is c.succeeded-in-ListCodes.ensures.failed c.succeeded-in-ListCodes.ensures.left
     c.list_codes.ensures.failed (write_fails c.list_codes.result _ _ c.list_codes.ensures.failed)
 
 pub returns-in-ListCodes-clause-touched : goal.returns-in-ListCodes-clause-touched
@@ -296,7 +296,7 @@ returns-in-ListCodes-clause-touched g c = does_as _ _ _ _ _ _ c.in-ListCodes.is 
 pub returns-in_ok-run-in-CollectIntoUnion-clause-performed : goal.returns-in_ok-run-in-CollectIntoUnion-clause-performed
 returns-in_ok-run-in-CollectIntoUnion-clause-performed g c =
     let runs = c.in_ok-run-in-CollectIntoUnion.ensures.runs in
-    let opened = c.in_ok-ledger-in-CollectIntoUnion.ensures in
+    let opened = c.in-Ok.ensures in
     performs_as _ _ _ _ _ _ _ _ _ _ _ _ _ _ _ _ c.in-CollectIntoUnion.is c.noted.ensures.files c.noted.ensures.ledger c.noted.ensures.status (runs_quiet _ _ _ _ _ _ _ _ _ _ _ _ _ _ _ _ _ _ runs) (
       record {
         printed = runs_printed _ _ _ _ _ _ _ _ _ _ _ _ _ _ _ _ _ _ runs;
@@ -314,7 +314,7 @@ returns-in_ok-run-in-CollectIntoUnion-clause-performed g c =
 
 pub returns-in_err-run-in-CollectIntoUnion-clause-failed : goal.returns-in_err-run-in-CollectIntoUnion-clause-failed
 returns-in_err-run-in-CollectIntoUnion-clause-failed g c =
-    let opened = c.in_ok-ledger-in-CollectIntoUnion.ensures in
+    let opened = c.in-Ok.ensures in
     let ends = c.in_err-run-in-CollectIntoUnion.ensures in
     let begun = begins_with g.F.OpenFromFiles.first g.S.Begun.windows g.S.Begun.finished g.S.Begun.aside g.S.Begun.came g.Y.System.told g.Y.System.found (g.Y.System.deeds c.args.rt.now) (g.O.Output.entry_shape c.args.output.now) in
     let seen = devices g.F.StoreInFiles.in_files g.N.Notes.Ledger in
@@ -327,18 +327,16 @@ returns-in_err-run-in-CollectIntoUnion-clause-failed g c =
       kept = runs_untouched _ _ _ _ _ _ _ _ _ _ _ _ _ _ _ _ _ _ ends.runs;
     }))
 
-pub returns-in_err-ledger-in-CollectIntoUnion-clause-failed : goal.returns-in_err-ledger-in-CollectIntoUnion-clause-failed
-returns-in_err-ledger-in-CollectIntoUnion-clause-failed g c =
+pub returns-in-Err-clause-failed : goal.returns-in-Err-clause-failed
+returns-in-Err-clause-failed g c =
     let output = g.O.Write.contents c.args.output.now in
-    err_and c.from_residual.result _ _ c.from_residual.ensures.1
-    (λ run is. fails_one _ _ _ _ (g.I.Read.remaining c.args.input.now) output output run c.in-CollectIntoUnion.is (record {
-      why = by_folder _ _ c.in-CollectIntoUnion.list.now _ _ _ is.0 c.in_err-ledger-in-CollectIntoUnion.ensures.failed;
+    let is = c.from.ensures in
+    let unopened = c.in-Err.ensures.failed in
+    fails_one _ _ _ _ (g.I.Read.remaining c.args.input.now) output output c.from.result c.in-CollectIntoUnion.is (record {
+      why = by_folder _ _ c.in-CollectIntoUnion.list.now _ _ _ is.0 unopened;
       leaves = inl (
-        (refl, is.1),
-        (
-          subst (IsUnopened c.in-CollectIntoUnion.sequences) (sym is.0) c.in_err-ledger-in-CollectIntoUnion.ensures.failed,
-          Keeps-refl output,
-        ),
+        (refl, (ap Some c.in-Err.ensures.unopened ∙ sym c.unwrap.ensures ∙ c.take.ensures.value, is.1)),
+        (subst (IsUnopened c.in-CollectIntoUnion.sequences) (sym is.0) unopened, Keeps-refl output),
       );
       kept = λ other. Keeps-refl output;
-    }))
+    })

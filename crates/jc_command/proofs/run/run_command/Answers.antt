@@ -25,6 +25,12 @@ returns-in-Ok-clause-touched g c = rw c.as_slice.ensures.value at c.answered.ens
 pub returns-clause-touched : goal.returns-clause-touched
 returns-clause-touched g c = rw c.as_slice.ensures.value at c.answered.ensures.touched
 
+pub returns-in-Ok-clause-unopened : goal.returns-in-Ok-clause-unopened
+returns-in-Ok-clause-unopened g c = rw c.as_slice.ensures.value at c.answered.ensures.unopened
+
+pub returns-clause-unopened : goal.returns-clause-unopened
+returns-clause-unopened g c = rw c.as_slice.ensures.value at c.answered.ensures.unopened
+
 pub returns-in-Ok-clause-failed : goal.returns-in-Ok-clause-failed
 returns-in-Ok-clause-failed g c = λ status number.
     either_by_number _ _ _ (map string_bytes c.args.words.items) (map string_bytes c.as_slice.result.now)
