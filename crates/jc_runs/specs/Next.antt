@@ -118,6 +118,16 @@ FirstBegins =
     (made : Tables) (told found : List ℕ → Option (List ℕ)) (deeds : Option (List Deed)) (shape : Shape)
     → BeganWith made made (begins_with no_file (λ _. []) empty empty (Contains []) told found deeds shape) nothing
 
+-- Behind a run that opened neither its notes nor its database the next one begins with what that one found.
+abbrev pub BeginsUnopened : Type 0
+BeginsUnopened =
+    (made kind : Tables) (b : Between) (finished aside still_finished still_aside : Journal) (windows : WindowName → List ℕ) (image : Image)
+    (before : LogEntry → Type 0) (came : List LogEntry) (told found told' found' : List ℕ → Option (List ℕ))
+    (deeds deeds' : Option (List Deed)) (shape shape' : Shape)
+    → BeganWith made kind (begins_with image windows finished aside before told found deeds shape) b
+    → ((e : LogEntry) → Contains b.came e → Contains came e) → union still_finished still_aside ≡ b.past
+    → BeganWith made kind (begins_with image windows still_finished still_aside (Contains came) told' found' deeds' shape') b
+
 -- What is found of files that had this, behind a run that opened no database in them: what they had, if it handed none
 -- back, or else what a crash may leave of what it did, if their disks returned what was written.
 abbrev pub IsFoundUnopened : {S C L : Type 0} → InFiles S C L → (first : Image) → Option L → Image → Type 0

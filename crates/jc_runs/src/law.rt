@@ -9,7 +9,7 @@ ghost use Rattle.jc_base.specs.LogEntry.{IsKey};
 ghost use Rattle.jc_ledger.specs.declared.owner.MachineDigest.{MachineDigest};
 ghost use Rattle.jc_ledger.specs.Kept.{IsKept, NoneCollide};
 ghost use Rattle.jc_runs.specs.Between.{Between, Fate, nothing};
-ghost use Rattle.jc_runs.specs.Next.{FirstBegins, MayMake};
+ghost use Rattle.jc_runs.specs.Next.{BeginsUnopened, FirstBegins, MayMake};
 ghost use Rattle.jc_runs.specs.Renamed.{OwnersAreChanged};
 ghost use Rattle.jc_runs.specs.Safe.{DeletesSafely, TellsAll};
 ghost use Rattle.jc_runs.specs.Stands.{Keeps, Stands};
@@ -29,6 +29,7 @@ pub fn runs_keep()
     ensures begins { Stands nothing }
     // It begins with no file, whichever tables it makes.
     ensures first { FirstBegins }
+    ensures unopened { BeginsUnopened }
     ensures keeps { (b c : Between) (steps : List Step) → LeadsOn b steps c → NoneCollide (Contains c.came) → Stands b → Keeps b steps c }
     // Behind a run that ended a turn leaves no note unmade.
     ensures turns { (fate : Fate) (b c : Between) → Turn fate b c → IsKept b.known b.past b.now (Contains b.came)

@@ -12,6 +12,11 @@ returns-clause-begins c = stands_at_first c.union_laws.ensures.same
 pub returns-clause-first : goal.returns-clause-first
 returns-clause-first c = first (record { read = c.one_reading-2.ensures.read; known = c.owners_are_no_harm.ensures.known })
 
+pub returns-clause-unopened : goal.returns-clause-unopened
+returns-clause-unopened c =
+    λ made kind b finished aside still_finished still_aside windows image before came told found told' found' deeds deeds' shape shape' began more same.
+    record { holds = began.holds; noted = began.noted; owner = began.owner; past = same; came = more }
+
 pub returns-clause-keeps : goal.returns-clause-keeps
 returns-clause-keeps c = keeps_on (record {
   collecting = record {
