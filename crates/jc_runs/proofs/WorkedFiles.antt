@@ -35,7 +35,6 @@ use Rattle.jc_runs.specs.Next.{FirstBegins, MayMake, no_file}
 use Rattle.jc_runs.specs.Steps.{LeadsOn}
 use Rattle.jc_runs.specs.Worked.{Starts, numbered, of_lost, of_one, of_other, worked}
 use Rattle.jc_runs.proofs.Course.{keeps_on, stands_at_first}
-use Rattle.jc_runs.proofs.Following.{begins_alike}
 use Rattle.jc_runs.proofs.OneMore.{Reads}
 use Rattle.jc_runs.proofs.Stepping.{Laws}
 use Rattle.jc_runs.proofs.Unions.{has_none, in_now, in_past, union_none, void}
@@ -216,8 +215,7 @@ module _ (files : Files) where
       past = all_there;
       came = λ e inside. inside;
     };
-    begins = λ image told seen deeds shape. begins_alike (sym all_there) (λ k key. known_there k key ∙ ap (λ (o : Known). o k) (sym known)) (λ e inside. inside)
-        (keeps_on laws nothing b (take steps worked) leads apart (stands_at_first laws.same)).stands.begins;
+    begins = (keeps_on laws nothing b (take steps worked) leads apart (stands_at_first laws.same)).stands.begins;
   }
     where
       all_there : union b.past empty ≡ b.past

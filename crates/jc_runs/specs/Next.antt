@@ -41,10 +41,6 @@ pub record BeganWith (made kind : Tables) (begun : Begins) (b : Between) : Type 
   pub past : stored_before begun ≡ b.past
   pub came : (e : LogEntry) → Contains b.came e → begun.came e
 
--- what a run supposes of the notes that it begins with, and of the journal that its database has
-abbrev pub MayStart : Begins → Journal → Type 0
-MayStart begun now = MayCatchUp begun.noted (stored_before begun) now begun.came
-
 -- what there is behind a run that left this journal, and these files of notes, when these entries had come
 abbrev pub behind : Between → (now : Journal) → (windows : WindowName → List ℕ) → (came : List LogEntry) → Between
 behind b now windows came = record b { known = known_in (λ w. notes_of (windows w)); owner = owner_found windows; now = now; came = came }
@@ -96,13 +92,13 @@ NextBegins =
     (told found : List ℕ → Option (List ℕ)) (deeds : Option (List Deed)) (shape : Shape) → BeginsIn made kind image now → union finished aside ≡ b.past
     → BeganWith made kind (begins_with image windows finished aside (Contains came) told found deeds shape) (behind b now windows came)
 
--- A run that begins with what there is supposes no more of it than that a run may begin.
-abbrev pub BegunMayStart : Type 0
-BegunMayStart =
+-- What a run that begins with what there is supposes of its notes is so if a run may begin.
+abbrev pub BegunMayBegin : Type 0
+BegunMayBegin =
     (made kind : Tables) (b : Between) (finished aside : Journal) (windows : WindowName → List ℕ) (image : Image)
     (came : List LogEntry) (told found : List ℕ → Option (List ℕ)) (deeds : Option (List Deed)) (shape : Shape)
     → BeganWith made kind (begins_with image windows finished aside (Contains came) told found deeds shape) b → MayBegin b
-    → MayStart (begins_with image windows finished aside (Contains came) told found deeds shape) b.now
+    → MayCatchUp (known_in (λ w. notes_of (windows w))) (union finished aside) b.now (Contains came)
 
 -- No file yet: neither a database nor a log beside it.
 abbrev pub no_file : Image
@@ -138,8 +134,8 @@ IsFoundUnopened o first left image =
 module _ {S C L N : Type 0} (begun : Begins) (g : Devices S C L N) (files_leave : N → WindowName → List ℕ → Type 0) (notes : N) where
   -- What a run promises that ended with these files, closed, and these notes is a step, whether the next run finds the files of
   -- its database as they read then, or as a crash leaves them.
-  abbrev pub EndLeadsOn : C → Type 0
-  EndLeadsOn files =
+  abbrev pub EndIsStep : C → Type 0
+  EndIsStep files =
       (made kind : Tables) (list : List ℕ) (most_windows : Option ℕ) (given old new : Option (List ℕ)) (status : Status) (b : Between)
       (windows : WindowName → List ℕ) (image : Image) (came : List LogEntry) (deeds : Option (List Deed))
       → CollectsIntoUnion begun g (leaves (Some files) (Some notes) deeds) made list most_windows given old new status
@@ -149,8 +145,8 @@ module _ {S C L N : Type 0} (begun : Begins) (g : Devices S C L N) (files_leave 
 
   -- So is what one promises over the uploads that a text names, that was stopped, of whatever the stop left of its database's
   -- files.
-  abbrev pub StopLeadsOn : Type 0
-  StopLeadsOn =
+  abbrev pub StopIsStep : Type 0
+  StopIsStep =
       (made kind : Tables) (text : Option (List ℕ)) (most_windows : Option ℕ) (answers : List Answer) (b : Between)
       (windows : WindowName → List ℕ) (image : Image) (came : List LogEntry)
       → LeavesNoted (those_named (told_within most_windows begun.told) MachinesAndUploads text) (meaning_of kind) (stored_before begun) b.now (g.ledger.came notes) (g.ledger.may_leave notes) answers image

@@ -26,8 +26,8 @@ use Rattle.jc_upload.specs.Head.{head_text}
 use Rattle.jc_upload.specs.declared.answer.Answer.{Answer}
 use Rattle.jc_upload.specs.declared.answer.Answer.TheVariants.{Ack, No}
 use Rattle.jc_upload.specs.declared.head.UploadHead.{UploadHead}
-use Rattle.jc_runs.specs.Between.{Aside, Between, IsInOne, Kept, journals_of, nothing}
-use Rattle.jc_runs.specs.Next.{BeganWith, MayStart}
+use Rattle.jc_runs.specs.Between.{Aside, Between, IsInOne, Kept, MayBegin, journals_of, nothing}
+use Rattle.jc_runs.specs.Next.{BeganWith}
 use Rattle.jc_runs.specs.Safe.{MayDelete, head_of_all}
 use Rattle.jc_runs.specs.Stands.{Keeps}
 use Rattle.jc_runs.specs.Steps.{Ends, Expires, LeadsOn, Step, Stops, Turns, forgets_windows}
@@ -119,5 +119,4 @@ pub record Starts (steps : ℕ) (b : Between) : Type 0 where
   pub windows : WindowName → List ℕ
   pub began : (made kind : Tables) (image : Image) (told found : List ℕ → Option (List ℕ)) (deeds : Option (List Deed)) (shape : Shape) → BeginsIn made kind image b.now
       → BeganWith made kind (begins_with image windows b.past empty (Contains b.came) told found deeds shape) b
-  pub begins : (image : Image) (told found : List ℕ → Option (List ℕ)) (deeds : Option (List Deed)) (shape : Shape)
-      → MayStart (begins_with image windows b.past empty (Contains b.came) told found deeds shape) b.now
+  pub begins : MayBegin b

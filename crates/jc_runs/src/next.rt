@@ -7,7 +7,7 @@ ghost use Rattle.jc_keeper.specs.declared.form.Shape.{Shape};
 ghost use Rattle.jc_command.specs.Run.{begins_with, devices};
 ghost use Rattle.jc_command_shared.specs.Deeds.{Deed};
 ghost use Rattle.jc_runs.specs.Between.{Between};
-ghost use Rattle.jc_runs.specs.Next.{BegunMayStart, ComeAsList, EndLeadsOn, FailLeadsOn, NextBegins, StopLeadsOn};
+ghost use Rattle.jc_runs.specs.Next.{BegunMayBegin, ComeAsList, EndIsStep, FailLeadsOn, NextBegins, StopIsStep};
 
 use jc_command::{Begun, NoteFolders};
 use jc_database::OpenFromFiles;
@@ -20,7 +20,7 @@ use jc_ledger_files::LedgerInFiles;
 pub fn next_run<F: OpenFromFiles, S: Begun, N: NoteFolders<S>>(files: &F::Files, notes: &N::Notes)
 where
     N::Notes: LedgerInFiles,
-    ensures ended { (told found : List ℕ → Option (List ℕ)) (deeds : Option (List Deed)) (shape : Shape) → EndLeadsOn (begins_with F.first S.windows S.finished S.aside S.came told found deeds shape) (devices F.in_files ⟦<N::Notes as Ledger>⟧)
+    ensures ended { (told found : List ℕ → Option (List ℕ)) (deeds : Option (List Deed)) (shape : Shape) → EndIsStep (begins_with F.first S.windows S.finished S.aside S.came told found deeds shape) (devices F.in_files ⟦<N::Notes as Ledger>⟧)
         N.Notes.files_leave notes.now files.now }
 {
     notes.show_files();
@@ -31,7 +31,7 @@ where
 pub fn next_run_over_notes<F: OpenFromFiles, S: Begun, N: NoteFolders<S>>(notes: &N::Notes)
 where
     N::Notes: LedgerInFiles,
-    ensures stopped { (told found : List ℕ → Option (List ℕ)) (deeds : Option (List Deed)) (shape : Shape) → StopLeadsOn (begins_with F.first S.windows S.finished S.aside S.came told found deeds shape) (devices F.in_files ⟦<N::Notes as Ledger>⟧)
+    ensures stopped { (told found : List ℕ → Option (List ℕ)) (deeds : Option (List Deed)) (shape : Shape) → StopIsStep (begins_with F.first S.windows S.finished S.aside S.came told found deeds shape) (devices F.in_files ⟦<N::Notes as Ledger>⟧)
         N.Notes.files_leave notes.now }
     // Behind a run that failed before its database was opened the next one begins as it did.
     ensures failed { (told found : List ℕ → Option (List ℕ)) (deeds : Option (List Deed)) (shape : Shape)
@@ -41,7 +41,7 @@ where
     ensures come { (b : Between) → ((e : LogEntry) → S.came e ↔ Contains b.came e) → ComeAsList (⟦<N::Notes as Ledger>⟧.came notes.now) b }
     ensures begins { NextBegins }
     // What `failed` of `run_command` and `each` of `collect_into_union_and_stop` suppose is so of a run that begins so.
-    ensures may_start { BegunMayStart }
+    ensures may_begin { BegunMayBegin }
 {
     notes.show_files();
     N::show_steady(notes);

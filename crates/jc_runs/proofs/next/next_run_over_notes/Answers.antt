@@ -39,6 +39,6 @@ pub returns-clause-begins : goal.returns-clause-begins
 returns-clause-begins g c = λ made kind b now finished aside windows image came told seen deeds shape holds same.
     record { holds = holds; noted = λ k key. refl; owner = λ s. refl; past = same; came = λ e has. has }
 
-pub returns-clause-may_start : goal.returns-clause-may_start
-returns-clause-may_start g c = λ made kind b finished aside windows image came told seen deeds shape began begins.
+pub returns-clause-may_begin : goal.returns-clause-may_begin
+returns-clause-may_begin g c = λ made kind b finished aside windows image came told seen deeds shape began begins.
     begins_alike (sym began.past) began.noted began.came begins
