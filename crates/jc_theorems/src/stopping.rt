@@ -217,7 +217,7 @@ fn stop_opened<F: StoreInFiles>(opened: OpenedFiles<F>) -> Snapshot<F>
     }
 }
 
-/// Closes files or notes as they are, and keeps for proofs what they were.
+/// Closes files as they are, and keeps for proofs what they were.
 pub(crate) fn let_go<T: Drop>(value: T) -> Snapshot<T>
     ensures { result.value ≡ value }
 {

@@ -30,13 +30,13 @@ use jc_schema_two::SchemaTwo;
 use jc_store::{Listed, TableKeeper};
 use std::snapshot::Snapshot;
 
-/// What a run over a union had answered when it was stopped, and what it left of the files of its present database and of
-/// the notes, which proofs alone see.
+/// What a run over a union had answered when it was stopped, what it left of the files of its present database, which proofs
+/// alone see, and the notes as they were then.
 #[derive(Drop)]
-pub struct StoppedUnion<'a, S, L: Ledger> {
+pub struct StoppedUnion<'a, S, L: Ledger + Drop> {
     pub answered: Result<Status, Failure<'a>>,
     pub files: Snapshot<S>,
-    pub ledger: Snapshot<L>,
+    pub ledger: L,
 }
 
 /// Does what `collect --sequences` does of the uploads that lines name up to where it closes its present database, and then
@@ -66,9 +66,9 @@ pub fn collect_into_union_and_stop<
     // If what was noted is what the finished databases have, and some of what the present one had: what the printed lines
     // acknowledge, before a failure too, is stored in the union, whatever a crash leaves, and it may be caught up again.
     ensures each { IfOk result (λ run. WhenNoted F.Store tables F.first run.files.value
-        (λ before. MayCatchUp (L.known ledger) P.journal before (L.came ledger) × L.sound ledger × L.clean run.ledger.value × NoneCollide (L.came run.ledger.value))
+        (λ before. MayCatchUp (L.known ledger) P.journal before (L.came ledger) × L.sound ledger × L.clean run.ledger × NoneCollide (L.came run.ledger))
         (λ kind before. HoldsPrinted (named (N.remaining names.old)) (λ answers. AnyLeft F.in_files run.files.value
-        (LeavesNoted (those_named (told_within most_windows Y.told) NameLines.MachinesAndUploads (N.remaining names.old)) (meaning_of kind) P.journal before (L.came run.ledger.value) (L.may_leave run.ledger.value) answers))
+        (LeavesNoted (those_named (told_within most_windows Y.told) NameLines.MachinesAndUploads (N.remaining names.old)) (meaning_of kind) P.journal before (L.came run.ledger) (L.may_leave run.ledger) answers))
         run.answered (O.contents output.old) (O.contents output.new))) }
     ensures touched { OpensAndMayReplace database.now (option_map (λ name. name.now) then_export.entry)
         (Y.deeds rt.old) (Y.deeds rt.new) }
@@ -118,12 +118,12 @@ fn stop_over<
     output: &mut O,
     errors: &mut E,
 ) -> StoppedUnion<'a, F, L>
-    ensures each { AreLawful T.meaning → IsClean (F.Store.view result.files.value) → L.clean result.ledger.value → NoneCollide (L.came result.ledger.value)
+    ensures each { AreLawful T.meaning → IsClean (F.Store.view result.files.value) → L.clean result.ledger → NoneCollide (L.came result.ledger)
         → MayOpen T.meaning F.Store present.conn (L.known ledger) P.journal (L.came ledger) → L.sound ledger
         → HoldsPrinted (named (N.remaining names.old)) (λ answers. AnyLeft F.in_files result.files.value
-        (LeavesNoted (those_named (told_within most_windows Y.told) NameLines.MachinesAndUploads (N.remaining names.old)) T.meaning P.journal (journal_of T.meaning F.Store present.conn) (L.came result.ledger.value) (L.may_leave result.ledger.value) answers))
+        (LeavesNoted (those_named (told_within most_windows Y.told) NameLines.MachinesAndUploads (N.remaining names.old)) T.meaning P.journal (journal_of T.meaning F.Store present.conn) (L.came result.ledger) (L.may_leave result.ledger) answers))
         result.answered (O.contents output.old) (O.contents output.new) }
-    ensures clean { IsClean (F.Store.view result.files.value) → L.clean result.ledger.value → NoneCollide (L.came result.ledger.value)
+    ensures clean { IsClean (F.Store.view result.files.value) → L.clean result.ledger → NoneCollide (L.came result.ledger)
         → HasCleanDisk (state F.Store present.conn) }
     ensures touched { MayReplaceIf (option_map (λ name. name.now) then_export.entry) (Y.deeds rt.old) (Y.deeds rt.new) }
 {
@@ -150,6 +150,6 @@ fn stop_over<
     StoppedUnion {
         answered,
         files: let_go(stop_keeper(present)),
-        ledger: let_go(ledger),
+        ledger,
     }
 }

@@ -20,7 +20,7 @@ returns-in-ByKey-clause-each g c = λ clean kind before begin noted.
     at_found c.args.tables ByKey g.F.OpenFromFiles.first c.in-ByKey.keeper.conn found (c.stop_over.ensures.clean clean noted.2 noted.3)
     past (g.L.Ledger.known c.args.ledger) (g.L.Ledger.came c.args.ledger)
     (λ kind before. HoldsPrinted (named text)
-    (λ answers. AnyLeft g.F.StoreInFiles.in_files run.files.value (LeavesNoted (those_named (told_within c.args.most_windows g.Y.System.told) MachinesAndUploads text) (meaning_of kind) past before (g.L.Ledger.came run.ledger.value) (g.L.Ledger.may_leave run.ledger.value) answers))
+    (λ answers. AnyLeft g.F.StoreInFiles.in_files run.files.value (LeavesNoted (those_named (told_within c.args.most_windows g.Y.System.told) MachinesAndUploads text) (meaning_of kind) past before (g.L.Ledger.came run.ledger) (g.L.Ledger.may_leave run.ledger) answers))
     run.answered (g.O.Write.contents c.args.output.now) (g.O.Write.contents c.stop_over.new.output))
     (λ may. c.stop_over.ensures.each (λ db journal. journal.spells.sound) clean noted.2 noted.3 may noted.1)
     kind before begin noted.0
@@ -34,7 +34,7 @@ returns-in-ByNumber-clause-each g c = λ clean kind before begin noted.
     at_found c.args.tables ByNumber g.F.OpenFromFiles.first c.in-ByNumber.keeper.conn found (c.stop_over-in-ByNumber.ensures.clean clean noted.2 noted.3)
     past (g.L.Ledger.known c.args.ledger) (g.L.Ledger.came c.args.ledger)
     (λ kind before. HoldsPrinted (named text)
-    (λ answers. AnyLeft g.F.StoreInFiles.in_files run.files.value (LeavesNoted (those_named (told_within c.args.most_windows g.Y.System.told) MachinesAndUploads text) (meaning_of kind) past before (g.L.Ledger.came run.ledger.value) (g.L.Ledger.may_leave run.ledger.value) answers))
+    (λ answers. AnyLeft g.F.StoreInFiles.in_files run.files.value (LeavesNoted (those_named (told_within c.args.most_windows g.Y.System.told) MachinesAndUploads text) (meaning_of kind) past before (g.L.Ledger.came run.ledger) (g.L.Ledger.may_leave run.ledger) answers))
     run.answered (g.O.Write.contents c.args.output.now) (g.O.Write.contents c.stop_over-in-ByNumber.new.output))
     (λ may. c.stop_over-in-ByNumber.ensures.each (λ db journal. journal.sound) clean noted.2 noted.3 may noted.1)
     kind before begin noted.0
