@@ -2,8 +2,9 @@
 
 ghost use Rattle.std.specs.Prelude.{⊤};
 
-use crate::Telling;
-use jc_command::{Begun, BegunBy, NoteFolders, run_command};
+use crate::{Telling, with_entry};
+use jc_base::{Entry, Id128, Key};
+use jc_command::{Begun, BegunBy, Ended, NoteFolders, run_command};
 use jc_command_args::Tables;
 use jc_command_shared::Text;
 use jc_database::{OpenFromFiles, OverFiles, over_files};
@@ -34,10 +35,23 @@ struct Run<'a> {
     until: Until,
 }
 
-/// What it printed, and its status if it ended and handed back its database's files and its notes.
+/// What became of a run, by what it handed back.
+#[derive(Clone, Copy, PartialEq)]
+enum Came {
+    /// It ended with this status, and handed back its database's files and its notes.
+    Ended(u8),
+    /// It failed with this status before it opened a database, and handed back its notes alone.
+    Unopened(u8),
+    /// It was stopped, and handed back its notes.
+    Stopped,
+    /// It handed back something else, or nothing.
+    Lost,
+}
+
+/// What became of a run, and what it printed.
 #[derive(Drop)]
 struct Printed {
-    ended: Option<u8>,
+    came: Came,
     output: Vec<u8>,
 }
 
@@ -63,7 +77,25 @@ fn run_over<F: OpenFromFiles, S: Begun>(run: Run<'_>, start: F::Start) -> io::Re
     }
 }
 
-/// Of what the run hands back, what it promises is a step, and behind any steps what is acknowledged is kept.
+/// The arguments of a run.
+fn words_of(run: &Run<'_>) -> io::Result<Vec<String>> {
+    let alloc = run.rt.alloc();
+    let words = [
+        "journal-collect",
+        "collect",
+        "--sequences",
+        run.sequences,
+        "--files-from",
+        "-",
+        run.database,
+    ];
+    let mut all = Vec::new(alloc);
+    for word in words {
+        all.push(String::from_str(alloc, word)?)?;
+    }
+    Ok(all)
+}
+
 fn run_to_end<F: OpenFromFiles, S: Begun, N: NoteFolders<S>>(
     run: Run<'_>,
     folders: N,
@@ -73,15 +105,7 @@ where
     N::Notes: LedgerInFiles,
 {
     let alloc = run.rt.alloc();
-    let words = vec![in alloc;
-        String::from_str(alloc, "journal-collect")?,
-        String::from_str(alloc, "collect")?,
-        String::from_str(alloc, "--sequences")?,
-        String::from_str(alloc, run.sequences)?,
-        String::from_str(alloc, "--files-from")?,
-        String::from_str(alloc, "-")?,
-        String::from_str(alloc, run.database)?,
-    ]?;
+    let words = words_of(&run)?;
     let mut system = Telling::<Machines>::new(run.rt);
     let mut input = run.lines;
     let mut output = Text {
@@ -99,52 +123,91 @@ where
         &mut output,
         &mut errors,
     );
-    let followed = match (&ended.files, &ended.ledger) {
-        (Some(files), Some(notes)) => {
+    Ok(Printed {
+        came: followed::<F, S, N>(&ended),
+        output: output.inner,
+    })
+}
+
+/// Of what the run hands back, what it promises is a step, or the next one begins as it did; and behind any steps what is
+/// acknowledged is kept.
+fn followed<F: OpenFromFiles, S: Begun, N: NoteFolders<S>>(
+    ended: &Ended<F::Files, F::Left, N::Notes>,
+) -> Came
+where
+    N::Notes: LedgerInFiles,
+{
+    match (&ended.files, &ended.ledger, &ended.left) {
+        (Some(files), Some(notes), None) => {
             next_run::<F, S, N>(files, notes);
             next_run_over_notes::<F, S, N>(notes);
             runs_keep();
-            Some(ended.status)
+            Came::Ended(ended.status)
         }
-        _ => None,
-    };
-    Ok(Printed {
-        ended: followed,
-        output: output.inner,
-    })
+        (None, None, Some(left)) if left.files.is_none() => {
+            next_run_over_notes::<F, S, N>(&left.ledger);
+            runs_keep();
+            Came::Unopened(ended.status)
+        }
+        _ => Came::Lost,
+    }
 }
 
 fn run_to_stop<F: OpenFromFiles, S: Begun, N: NoteFolders<S>>(
     run: Run<'_>,
     folders: N,
     start: F::Start,
-) -> Printed {
-    let alloc = run.rt.alloc();
+) -> Printed
+where
+    N::Notes: LedgerInFiles,
+{
+    let mut output = Text {
+        inner: Vec::new(run.rt.alloc()),
+    };
+    let came = match folders.open(run.sequences) {
+        Ok(notes) => stopped::<F, S, N>(&run, notes, start, &mut output),
+        Err(_) => Came::Lost,
+    };
+    Printed {
+        came,
+        output: output.inner,
+    }
+}
+
+/// Of the notes as they were when it was stopped, what it promises is a step.
+fn stopped<F: OpenFromFiles, S: Begun, N: NoteFolders<S>>(
+    run: &Run<'_>,
+    notes: N::Notes,
+    start: F::Start,
+    output: &mut Text<Vec<u8>>,
+) -> Came
+where
+    N::Notes: LedgerInFiles,
+{
     let mut system = Telling::<Machines>::new(run.rt);
     let mut names = run.lines;
-    let mut output = Text {
-        inner: Vec::new(alloc),
-    };
     let mut errors = Text {
-        inner: Vec::new(alloc),
+        inner: Vec::new(run.rt.alloc()),
     };
-    if let Ok(notes) = folders.open(run.sequences) {
-        let _ = collect_into_union_and_stop::<_, F, N::Notes, BegunBy<S>, _, _, _>(
-            &mut system,
-            start,
-            notes,
-            run.database,
-            Tables::ByKey,
-            None,
-            &mut names,
-            None,
-            &mut output,
-            &mut errors,
-        );
-    }
-    Printed {
-        ended: None,
-        output: output.inner,
+    let stopped = collect_into_union_and_stop::<_, F, N::Notes, BegunBy<S>, _, _, _>(
+        &mut system,
+        start,
+        notes,
+        run.database,
+        Tables::ByKey,
+        None,
+        &mut names,
+        None,
+        output,
+        &mut errors,
+    );
+    match stopped {
+        Ok(stopped) => {
+            next_run_over_notes::<F, S, N>(&stopped.ledger);
+            runs_keep();
+            Came::Stopped
+        }
+        Err(_) => Came::Lost,
     }
 }
 
@@ -168,21 +231,53 @@ fn collected(
     over_files(run, Unknown)
 }
 
+/// A database with the first machine's entry is to be made at this path.
+#[derive(Drop)]
+struct Filling<'a> {
+    rt: &'a HostRuntime,
+    path: &'a str,
+}
+
+impl<'a> OverFiles for Filling<'a> {
+    type Outcome = bool;
+
+    ghost ends = { λ _ _. ⊤ };
+
+    fn over<F: OpenFromFiles>(self, start: F::Start) -> bool {
+        let alloc = self.rt.alloc();
+        let mut id = [0; 16];
+        id[0] = 1;
+        let key = Key {
+            seqnum_id: Id128(id),
+            seqnum: 1,
+        };
+        match Entry::from_text(alloc, key, 1, 1, b"") {
+            Ok(Some(entry)) => {
+                let mut system = Telling::<Machines>::new(self.rt);
+                with_entry::<_, F>(&mut system, self.path, start, entry).is_some()
+            }
+            _ => false,
+        }
+    }
+}
+
 /// The path of a new folder of this process, with a `/` at its end.
-fn new_folder(rt: &HostRuntime) -> io::Result<String> {
+fn new_folder(rt: &HostRuntime, name: &str) -> io::Result<String> {
     let id = process::id(rt.process());
     let path = env::temp_dir(rt)?;
     let all = path.as_str();
-    let folder = format!(in rt.alloc(); "{all}/journal-collect-{id}-runs/")?;
+    let folder = format!(in rt.alloc(); "{all}/journal-collect-{id}-{name}/")?;
     fs::create_dir(rt, folder.as_str())?;
     Ok(folder)
 }
 
-fn are(printed: &Printed, ended: Option<u8>, lines: &str) -> bool {
-    printed.ended == ended && printed.output.as_slice() == lines.as_bytes()
+fn are(printed: &Printed, came: Came, lines: &str) -> bool {
+    printed.came == came && printed.output.as_slice() == lines.as_bytes()
 }
 
 const ONE_IS_NEW: &str = "ack 01000000000000000000000000000000 0 1 1 0\n";
+
+const ONE_IS_THERE: &str = "ack 01000000000000000000000000000000 0 1 0 0\n";
 
 const OTHER_IS_NEW: &str = "ack 02000000000000000000000000000000 0 1 1 0\n";
 
@@ -195,18 +290,48 @@ const BOTH_ARE_THERE: &str = "ack 02000000000000000000000000000000 0 1 0 0\n\
 /// then to the third database, when the window with its note is gone.
 #[test]
 fn uploads_that_are_told_are_collected(rt: HostRuntime) -> Result<(), Fail> {
-    let folder = new_folder(&rt)?;
+    let folder = new_folder(&rt, "runs")?;
     let folder = folder.as_str();
     let new = collected(&rt, folder, "first.db", "\u{1}\t1\n", Until::End)?;
-    assert!(rt; are(&new, Some(0), ONE_IS_NEW));
+    assert!(rt; are(&new, Came::Ended(0), ONE_IS_NEW));
     let other = collected(&rt, folder, "second.db", "\u{2}\t2\n", Until::Stop)?;
-    assert!(rt; are(&other, None, OTHER_IS_NEW));
+    assert!(rt; are(&other, Came::Stopped, OTHER_IS_NEW));
     let lines = "\u{2}\t2\n\u{1}\tgone\n\u{1}\t1\n";
     let again = collected(&rt, folder, "second.db", lines, Until::End)?;
-    assert!(rt; are(&again, Some(3), BOTH_ARE_THERE));
+    assert!(rt; are(&again, Came::Ended(3), BOTH_ARE_THERE));
     let window = format!(in rt.alloc(); "{folder}sequences/01000000000000000000000000000000/0")?;
     fs::remove_file(&rt, window.as_str())?;
     let anew = collected(&rt, folder, "third.db", "\u{1}\t1\n", Until::End)?;
-    assert!(rt; are(&anew, Some(0), ONE_IS_NEW));
+    assert!(rt; are(&anew, Came::Ended(0), ONE_IS_NEW));
+    Ok(fs::remove_dir_all(&rt, folder)?)
+}
+
+/// A folder is no database. The next run has the notes as they were.
+#[test]
+fn a_run_without_a_database_hands_back_its_notes(rt: HostRuntime) -> Result<(), Fail> {
+    let folder = new_folder(&rt, "unopened")?;
+    let folder = folder.as_str();
+    let no_database = format!(in rt.alloc(); "{folder}folder.db")?;
+    fs::create_dir(&rt, no_database.as_str())?;
+    let failed = collected(&rt, folder, "folder.db", "\u{1}\t1\n", Until::End)?;
+    assert!(rt; are(&failed, Came::Unopened(3), ""));
+    let next = collected(&rt, folder, "next.db", "\u{1}\t1\n", Until::End)?;
+    assert!(rt; are(&next, Came::Ended(0), ONE_IS_NEW));
+    Ok(fs::remove_dir_all(&rt, folder)?)
+}
+
+/// A run over a database that has an entry, and no note of it, finds it there.
+#[test]
+fn a_database_with_an_entry_is_collected_into(rt: HostRuntime) -> Result<(), Fail> {
+    let folder = new_folder(&rt, "filled")?;
+    let folder = folder.as_str();
+    let path = format!(in rt.alloc(); "{folder}filled.db")?;
+    let filling = Filling {
+        rt: &rt,
+        path: path.as_str(),
+    };
+    assert!(rt; over_files(filling, Unknown));
+    let again = collected(&rt, folder, "filled.db", "\u{1}\t1\n", Until::End)?;
+    assert!(rt; are(&again, Came::Ended(0), ONE_IS_THERE));
     Ok(fs::remove_dir_all(&rt, folder)?)
 }
