@@ -1,4 +1,5 @@
 -- A file is opened that was kept, or is asked for first. One that can't be opened is kept as it was.
+use Rattle.std.proofs.Common.{◌∙◌}
 use Rattle.jc_sequences.proofs.Closing.{all_stay}
 use Rattle.jc_sequences.proofs.Lending.{lent_asked, others_of}
 use Rattle.jc_sequences.proofs.open_files.OpenFiles.lend.Goals as goal
@@ -14,6 +15,9 @@ returns-in-Ok-clause-others g c = λ whole. c.take-file.ensures.others
 
 pub returns-in-Ok-clause-clean : goal.returns-in-Ok-clause-clean
 returns-in-Ok-clause-clean g c = λ whole clean is. c.take-file.ensures.clean clean (c.open.ensures.asked.was_clean is)
+
+pub returns-in-Ok-clause-calm : goal.returns-in-Ok-clause-calm
+returns-in-Ok-clause-calm g c = λ whole clean. (c.take-file.ensures.worn ∙ whole, (c.take-file.ensures.calm clean).1)
 
 pub returns-in-Err-clause-refused : goal.returns-in-Err-clause-refused
 returns-in-Err-clause-refused g c = λ whole.

@@ -9,3 +9,6 @@ returns-in-None-clause-clean g c = λ clean is. c.in-None.ensures.clean clean
 
 pub returns-in-Some-clause-clean : goal.returns-in-Some-clause-clean
 returns-in-Some-clause-clean g c = λ clean is. c.in-Some.ensures.clean clean is
+
+pub returns-in-None-clause-calm : goal.returns-in-None-clause-calm
+returns-in-None-clause-calm g c = λ clean. (c.unopened.ensures.clean, (c.in-None.ensures.calm clean).1)
