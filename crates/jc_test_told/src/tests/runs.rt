@@ -197,3 +197,19 @@ fn worked_runs_are_answered_so(rt: HostRuntime) -> Result<(), Fail> {
     check_databases(&rt, &mut fourth);
     Ok(())
 }
+
+/// The first machine brings an upload of the other's sequence. It is refused by the number of the entry, and nothing of it is
+/// stored.
+#[test]
+fn an_upload_of_another_machine_is_refused(rt: HostRuntime) -> Result<(), Fail> {
+    let alloc = rt.alloc();
+    let maps = MapKeeper::new(alloc);
+    let mut union = UnionKeeper::new(alloc, maps, MapLedger::new(alloc), EmptyShelf);
+    let lines = "ack 02000000000000000000000000000000 0 1 1 0\n\
+        no 03000000000000000000000000000000 0 71 0\n";
+    let answers = answered(alloc, &mut union, "\u{2}\t2\n\u{1}\t3\n");
+    assert!(rt; answers.is_some_and(|it| it.as_slice() == lines.as_bytes()));
+    assert!(rt; has(&mut union.present, &OF_OTHER));
+    assert!(rt; !has(&mut union.present, &OF_LOST));
+    Ok(())
+}
