@@ -64,6 +64,13 @@ module _ {S C L : Type 0} (o : InFiles S C L) where
   abbrev pub LeavesAsBeforeOr : Meaning → (before : Image) → L → Type 0
   LeavesAsBeforeOr m before left = LeavesOnly (StaysOrIsMade m before) before left
 
+-- Something may be left of any files: of closed ones what they hold, and of others some image, if their disks returned what
+-- was written.
+pub record LeavesSome {S C L : Type 0} (g : Ghosts S) (o : InFiles S C L) : Type 0 where
+  pub closed : (files : C) → o.outcomes files (o.image files)
+  pub open_still : (s : S) → IsClean (g.view s) → (image : Image) × o.may_leave s image
+  pub handed_back : (left : L) → o.is_clean_left left → (image : Image) × o.may_be_left left image
+
 -- ---- a connection
 
 module _ {S : Type 0} (g : Ghosts S) where

@@ -10,7 +10,7 @@ ghost use Rattle.sqlite.specs.WalFiles.{image_at};
 ghost use Rattle.jc_database.specs.Files.{IsFound};
 ghost use Rattle.jc_database.specs.Left.{IsEarly, LeavesAsBefore};
 ghost use Rattle.jc_database.specs.OverDisk.{over_disk};
-ghost use Rattle.jc_database.specs.OverDiskLaws.{clean_if_left_at};
+ghost use Rattle.jc_database.specs.OverDiskLaws.{clean_if_left_at, leaves_some_at};
 
 use crate::closing::FailedClose;
 use crate::opening::{FailedOpen, open_files};
@@ -44,6 +44,8 @@ impl<D: Disk + Drop> StoreInFiles for FileStore<D> {
     }
 
     ghost opens_again = { opens_again };
+
+    ghost leaves_some = { leaves_some_at D.Disk.seen_may_stay };
 
     ghost clean_if_left = { clean_if_left_at };
 }

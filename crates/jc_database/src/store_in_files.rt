@@ -9,7 +9,7 @@ ghost use Rattle.sqlite.specs.State.{HasCleanDisk};
 ghost use Rattle.sqlite.specs.Files.{HoldsDatabase};
 ghost use Rattle.sqlite_trees.specs.View.{IsQuiet};
 ghost use Rattle.jc_database.specs.Files.{InFiles, IsFound, IsSoundStore, IsWritten};
-ghost use Rattle.jc_database.specs.Left.{IsEarly, LeavesAsBefore};
+ghost use Rattle.jc_database.specs.Left.{IsEarly, LeavesAsBefore, LeavesSome};
 
 use crate::closing::FailedClose;
 use crate::opening::FailedOpen;
@@ -51,6 +51,9 @@ pub trait StoreInFiles: Alter + Sized + Drop {
     ghost opens_again: { (s : Self) → IsTrue (Self.Store.view s).is_numbered → AreDatabases (Self.Store.recovers s)
         → (image : Image) → in_files.may_leave s image
         → ∥ ((db : Trees) × Self.Store.recovers s db × HoldsDatabase image db) ∥₁ };
+
+    // What is said of whatever a crash leaves is said of something.
+    ghost leaves_some: { LeavesSome Self.Store in_files };
 
     // Nothing is left of a store whose disk hasn't returned what was written.
     ghost clean_if_left: { (s : Self) (db : Trees) → Self.Store.recovers s db → IsClean (Self.Store.view s) };
