@@ -318,7 +318,7 @@ returns-in_err-run-in-CollectIntoUnion-clause-failed g c =
     let ends = c.in_err-run-in-CollectIntoUnion.ensures in
     let begun = begins_with g.F.OpenFromFiles.first g.S.Begun.windows g.S.Begun.finished g.S.Begun.aside g.S.Begun.came g.Y.System.told g.Y.System.found (g.Y.System.deeds c.args.rt.now) (g.O.Output.entry_shape c.args.output.now) in
     let seen = devices g.F.StoreInFiles.in_files g.N.Notes.Ledger in
-    err_is c.from_residual-in_err-run-in-CollectIntoUnion.result _ _ c.from_residual-in_err-run-in-CollectIntoUnion.ensures.1
+    err_is c.from_residual.result _ _ c.from_residual.ensures.1
     (fails_one begun seen _ _ (g.I.Read.remaining c.args.input.now) (g.O.Write.contents c.args.output.now) _ _ c.in-CollectIntoUnion.is (record {
       why = inr ends.failed;
       leaves = inr (runs_left _ _ _ _ _ _ _ _ _ _ _ _ _ _ _ _ _ _ _
