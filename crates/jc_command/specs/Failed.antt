@@ -1,5 +1,5 @@
 -- What a run of the program leaves in which what was asked for isn't performed. (own)
-use Rattle.std.specs.Prelude.{◌≡◌, ◌≢◌, ◌↔◌, ◌⊎◌, ℕ, List, Option, None, IsSomeAnd}
+use Rattle.std.specs.Prelude.{◌≡◌, ◌≢◌, ◌↔◌, ◌⊎◌, ℕ, List, Option, None, Some, IsSomeAnd}
 use Rattle.std.specs.Borrow.{Bor}
 use Rattle.std.specs.Io.KnownBytes.{Keeps}
 use Rattle.clap.specs.Words.{Text}
@@ -20,7 +20,7 @@ use Rattle.jc_command_shared.specs.declared.failure.Failure.{Failure}
 use Rattle.jc_command_shared.specs.declared.failure.Failure.TheVariants.{CannotOpen, OutOfMemory}
 use Rattle.jc_command_shared.specs.declared.status.Status.{Status}
 use Rattle.jc_command_shared.specs.declared.status.Status.TheVariants.{Failed}
-use Rattle.jc_command.specs.Run.{Begins, Devices, FailsBy, LeavesUnion}
+use Rattle.jc_command.specs.Run.{Begins, Devices, FailsBy, LeavesUnion, PerformsAsked, leaves}
 
 -- Why a folder of notes isn't opened.
 abbrev pub IsUnopened : (folder : Bor (List ℕ)) → Failure → Type 0
@@ -64,3 +64,10 @@ module _ {S C L N : Type 0} (begun : Begins) (g : Devices S C L N) where
       ((AskForHelp words ⊎ (Keeps old new × (AreWrong words ⊎ (status ≡ Failed)))) × BeginsNothing deeds Unopened left)
       ⊎ ((request : Request) × AskFor words request
       × ((failure : Failure) × (status ≡ status_of failure) × FailsBy begun.told request given failure × FailsLeaving request given old new deeds Unopened failure left))
+
+-- What was asked for is performed, or fails so, in a run that keeps to itself what it has at its end.
+unfoldable pub FailsWithin : {S C L N D : Type 0} → Begins → Devices S C L N → (folders : D) → (deeds : Option (List Deed)) → List Text → (given old new : Option (List ℕ)) → Status → Type 0
+FailsWithin {S} {C} {L} {N} {D} begun g folders deeds words given old new status =
+    (files : Option C) × (ledger : Option N) × (left : Option (NotedLeft L N)) × (back : Option D)
+    × (PerformsAsked begun g (leaves files ledger deeds) words given old new status
+    ⊎ FailsAsked begun g words given old new deeds (back ≡ Some folders) status left)

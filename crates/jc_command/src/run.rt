@@ -6,7 +6,7 @@ ghost use Rattle.clap.specs.Words.{kind_of};
 ghost use Rattle.jc_command_args.specs.Answer.{IsAskedFor};
 ghost use Rattle.jc_command_shared.specs.Failure.{status_of};
 ghost use Rattle.jc_command_shared.specs.Status.{number_of};
-ghost use Rattle.jc_command.specs.Failed.{FailsAsked, HasFailed};
+ghost use Rattle.jc_command.specs.Failed.{FailsAsked, FailsWithin, HasFailed};
 ghost use Rattle.jc_command.specs.Run.{AskToOpenNotes, DoesAsked, DoesFor, Ends, EndsWithin, HasPerformed, OpensNotes, PerformsAsked, Stops, begins_with, devices, leaves};
 
 use crate::begun::{Begun, BegunBy};
@@ -174,6 +174,11 @@ pub fn command<'a, Y: Databases, F: OpenFromFiles, S: Begun, I: Read, O: Output,
         → EndsWithin (begins_with F.first S.windows S.finished S.aside S.came Y.told Y.found (Y.deeds rt.old) (O.entry_shape output.old))
         (devices F.in_files ⟦<Sequences<'a, S> as Ledger>⟧) (Y.deeds rt.new) (map string_bytes words.items) (I.remaining input.old)
         (O.contents output.old) (O.contents output.new) (E.contents errors.old) (E.contents errors.new) status }
+    // Whatever the status is, what was asked for is performed, or it fails and leaves that.
+    ensures failed { (status : Status) → result ≡ number_of status
+        → FailsWithin (begins_with F.first S.windows S.finished S.aside S.came Y.told Y.found (Y.deeds rt.old) (O.entry_shape output.old))
+        (devices F.in_files ⟦<Sequences<'a, S> as Ledger>⟧) folders.entry (Y.deeds rt.new) (map string_bytes words.items) (I.remaining input.old)
+        (O.contents output.old) (O.contents output.new) status }
     // However it ends, this alone was done to files.
     ensures touched { DoesAsked Y.found (map string_bytes words.items) (I.remaining input.old) (Y.deeds rt.old) (Y.deeds rt.new) }
 {

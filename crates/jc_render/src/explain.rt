@@ -3,6 +3,7 @@
 ghost use Rattle.std.specs.Prelude.{◌≡◌, ◌≢◌, ◌≤◌, ℕ, List, None, OnErr, OnOk, Option as Maybe, Contains, map, string_bytes};
 ghost use Rattle.jc_command_shared.specs.Status.{number_of};
 ghost use Rattle.jc_command_shared.specs.declared.status.Status.{Status};
+ghost use Rattle.jc_command.specs.Failed.{FailsWithin};
 ghost use Rattle.jc_command.specs.Run.{EndsWithin, begins_with, devices};
 ghost use Rattle.jc_render.specs.Explanations.{AreExplanations, Tells, TellsOn};
 ghost use Rattle.jc_render.specs.declared.noting.Trouble.{Trouble as Matter};
@@ -36,6 +37,10 @@ pub fn explained<'a, F: OpenFromFiles, S: Begun, I: Read, O: Output + Drop, E: E
         None (map string_bytes words.items) (I.remaining input.old) (O.contents output.old.inner) (O.contents output.new.inner)
         (E.contents errors.old.inner) told status
         × TellsOn (map string_bytes words.items) CODES.now told (E.contents errors.new.inner) }
+    // Whatever the status is, what was asked for is performed, or it fails and leaves that.
+    ensures failed { (status : Status) → result ≡ number_of status
+        → FailsWithin (begins_with F.first S.windows S.finished S.aside S.came (λ _. None) (λ _. None) None (O.entry_shape output.old.inner)) (devices F.in_files ⟦<Sequences<'a, S> as Ledger>⟧)
+        folders.entry None (map string_bytes words.items) (I.remaining input.old) (O.contents output.old.inner) (O.contents output.new.inner) status }
 {
     let asked: Result<_, _> = words.clone();
     let mut system = Witness::new(rt);

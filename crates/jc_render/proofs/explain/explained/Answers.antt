@@ -33,3 +33,9 @@ returns-in_default-clause-ended g c = λ status other number. (
   c.command-status.ensures.ended status other number,
   inl (Keeps-refl (g.E.Write.contents c.command-status.new.errors.inner)),
 )
+
+pub returns-clause-failed : goal.returns-clause-failed
+returns-clause-failed g c = c.command-status.ensures.failed
+
+pub returns-in_default-clause-failed : goal.returns-in_default-clause-failed
+returns-in_default-clause-failed g c = c.command-status.ensures.failed
