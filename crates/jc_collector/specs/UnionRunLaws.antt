@@ -49,13 +49,13 @@ module _ {S C R N : Type 0} (o : InFiles S C R) (n : ledgers.Ghosts N) (made : T
     began_as text owned same {within = within} {owner = owner} {before = before} {after = after} it = record {
       kept = it.kept;
       stored = it.stored;
-      own = record { shown = it.own.shown; holds = holds text it.own.holds };
+      own = record { shown = it.own.shown; holds = holds text _ it.own.holds };
     }
       where
-        holds : (text : Option (List ℕ)) {answers : List Answer} → CollectsText within MachinesAndUploads (whose_by (n.owner ledger)) (whose_by owner) text (union past before) (union past after) answers
+        holds : (text : Option (List ℕ)) (answers : List Answer) → CollectsText within MachinesAndUploads (whose_by (n.owner ledger)) (whose_by owner) text (union past before) (union past after) answers
             → CollectsText within MachinesAndUploads (whose_by owned) (whose_by owner) text (union past before) (union past after) answers
-        holds None it = tt
-        holds (Some lines) it = (
+        holds None answers it = tt
+        holds (Some lines) answers it = (
           it.0,
           λ machine s is. ⊎_elim (λ was. inl (subst (BelongsTo (option_map machine_named machine)) (same s) was)) (λ some. inr some) (it.1 machine s is),
         )

@@ -1,6 +1,6 @@
 -- What was answered stands in the union, and the export behind it changes nothing. The keeper that was answered over isn't
 -- named, so that another one doesn't fit.
-use Rattle.std.proofs.Common.{ap, inl, inr, sym, ◌∙◌}
+use Rattle.std.proofs.Common.{ap, inl, sym, ◌∙◌}
 use Rattle.std.specs.Prelude.{⊤}
 use Rattle.sqlite.specs.Held.{state}
 use Rattle.sqlite.specs.State.{HasCleanDisk}
