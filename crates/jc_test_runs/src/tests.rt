@@ -132,7 +132,7 @@ where
 /// Of what the run hands back, what it promises is a step, or the next one begins as it did; and behind any steps what is
 /// acknowledged is kept.
 fn followed<F: OpenFromFiles, S: Begun, N: NoteFolders<S>>(
-    ended: &Ended<F::Files, F::Left, N::Notes>,
+    ended: &Ended<F::Files, F::Left, N::Notes, N>,
 ) -> Came
 where
     N::Notes: LedgerInFiles,
