@@ -7,7 +7,7 @@ use Rattle.sqlite.specs.Recovery.{Image}
 use Rattle.jc_base.specs.declared.id.Id128.{Id128}
 use Rattle.jc_base.specs.declared.id.Key.{Key}
 use Rattle.jc_base.specs.Journal.{Journal}
-use Rattle.jc_base.specs.LogEntry.{IsKey}
+use Rattle.jc_base.specs.LogEntry.{IsKey, LogEntry}
 use Rattle.jc_command.specs.Run.{begins_with}
 use Rattle.jc_command_args.specs.declared.request.Tables.{Tables}
 use Rattle.jc_command_shared.specs.Deeds.{Deed}

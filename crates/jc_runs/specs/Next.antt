@@ -118,9 +118,9 @@ FirstBegins =
 abbrev pub BeginsUnopened : Type 0
 BeginsUnopened =
     (made kind : Tables) (b : Between) (finished aside still_finished still_aside : Journal) (windows : WindowName → List ℕ) (image : Image)
-    (before : LogEntry → Type 0) (came : List LogEntry) (told found told' found' : List ℕ → Option (List ℕ))
+    (before came : List LogEntry) (told found told' found' : List ℕ → Option (List ℕ))
     (deeds deeds' : Option (List Deed)) (shape shape' : Shape)
-    → BeganWith made kind (begins_with image windows finished aside before told found deeds shape) b
+    → BeganWith made kind (begins_with image windows finished aside (Contains before) told found deeds shape) b
     → ((e : LogEntry) → Contains b.came e → Contains came e) → union still_finished still_aside ≡ b.past
     → BeganWith made kind (begins_with image windows still_finished still_aside (Contains came) told' found' deeds' shape') b
 
