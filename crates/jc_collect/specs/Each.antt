@@ -8,7 +8,6 @@ use Rattle.jc_base.specs.Fault.{number_of}
 use Rattle.jc_base.specs.Journal.{Journal}
 use Rattle.jc_base.specs.LogEntry.{LogEntry}
 use Rattle.jc_base.specs.Reading.{Reading}
-use Rattle.jc_keeper.specs.Absorb.{TakesWhole}
 use Rattle.jc_keeper.specs.Agree.{IsStored}
 use Rattle.jc_upload.specs.declared.answer.Answer.{Answer}
 use Rattle.jc_upload.specs.declared.answer.Answer.TheVariants.{Ack, No}

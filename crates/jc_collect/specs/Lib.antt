@@ -20,5 +20,6 @@ pub mod Inspected
 pub mod Wide
 pub mod Each
 pub mod EachLaws
+pub mod Gathered
 pub mod Together
 pub mod TogetherLaws

@@ -3,6 +3,7 @@
 ghost use Rattle.std.specs.Prelude.{◌≡◌, ◌++◌, ◌∷◌, [], IsTrue, OnErr, OnOk, map};
 ghost use Rattle.jc_collect.specs.Delivered.{of_delivery};
 ghost use Rattle.jc_collect.specs.Each.{NoneAcknowledged};
+ghost use Rattle.jc_collect.specs.Gathered.{answers_in};
 ghost use Rattle.jc_collect.specs.Settled.{withdrawn};
 ghost use Rattle.jc_collect.specs.Together.{HasSettled, TakesUp};
 
@@ -21,7 +22,7 @@ const MOST_BYTES: u64 = 4 << 20;
 /// The answers to uploads, in their order. What they acknowledge may wait to be stored, until they settle.
 #[derive(Drop)]
 pub struct Gathered {
-    pub(crate) answers: Vec<Answer>,
+    answers: Vec<Answer>,
     /// How many bytes the uploads have, up to 2^64 - 1.
     bytes: u64,
 }
@@ -29,7 +30,7 @@ pub struct Gathered {
 impl Gathered {
     /// None. Takes no memory.
     pub fn new(alloc: Global) -> Gathered
-        ensures { result.answers.items ≡ [] }
+        ensures { answers_in result ≡ [] }
     {
         Gathered {
             answers: Vec::new(alloc),
@@ -38,7 +39,7 @@ impl Gathered {
     }
 
     pub fn answers(&self) -> &[Answer]
-        ensures { result.now ≡ self.now.answers.items }
+        ensures { result.now ≡ answers_in self.now }
     {
         self.answers.as_slice()
     }
@@ -57,10 +58,10 @@ impl Gathered {
         limits: &Limits,
     ) -> Result<(), OutOfMemory>
         ensures took { OnOk result (TakesUp K.Keeper limits.now (of_delivery R.remaining B.bytes delivery.old) keeper.old keeper.new
-            self.old.answers.items self.new.answers.items) }
+            (answers_in self.old) (answers_in self.new)) }
         ensures untouched { OnErr result (keeper.new ≡ keeper.old) }
         ensures unread { OnErr result (delivery.new ≡ delivery.old) }
-        ensures others { OnErr result (self.new.answers.items ≡ self.old.answers.items) }
+        ensures others { OnErr result (answers_in self.new ≡ answers_in self.old) }
     {
         self.answers.reserve(1)?;
         self.bytes = self.bytes.saturating_add(size_of(delivery));
@@ -71,8 +72,8 @@ impl Gathered {
 
     /// Keeps the answer to an upload of which nothing is taken up.
     pub fn put(&mut self, answer: Answer) -> Result<(), OutOfMemory>
-        ensures put { OnOk result (self.new.answers.items ≡ self.old.answers.items ++ answer ∷ []) }
-        ensures others { OnErr result (self.new.answers.items ≡ self.old.answers.items) }
+        ensures put { OnOk result (answers_in self.new ≡ answers_in self.old ++ answer ∷ []) }
+        ensures others { OnErr result (answers_in self.new ≡ answers_in self.old) }
     {
         self.answers.push(answer)?;
         Ok(())
@@ -82,7 +83,7 @@ impl Gathered {
     /// conflict, is answered `No` with the code of the failure, and place 0. Where none is acknowledged nothing waits, and
     /// nothing is done.
     pub fn settle<K: Keeper>(&mut self, keeper: &mut K)
-        ensures { HasSettled K.Keeper keeper.old keeper.new self.old.answers.items self.new.answers.items }
+        ensures { HasSettled K.Keeper keeper.old keeper.new (answers_in self.old) (answers_in self.new) }
     {
         if !is_any_acknowledged(self.answers.as_slice()) {
             return;
@@ -94,7 +95,7 @@ impl Gathered {
 
     /// Forgets the answers.
     pub fn clear(&mut self)
-        ensures { self.new.answers.items ≡ [] }
+        ensures { answers_in self.new ≡ [] }
     {
         self.answers.clear();
         self.bytes = 0;

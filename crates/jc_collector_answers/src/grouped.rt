@@ -4,6 +4,7 @@ ghost use Rattle.std.specs.Prelude.{◌≡◌, ◌≤◌, ◌⊎◌, [], IfErr, 
 ghost use Rattle.std.specs.Io.KnownBytes.{Keeps};
 ghost use Rattle.std.specs.List.{list_any};
 ghost use Rattle.jc_base.specs.LimitBounds.{AreDefaults};
+ghost use Rattle.jc_collect.specs.Gathered.{answers_in};
 ghost use Rattle.jc_collector_answers.specs.Answered.{is_refusal};
 ghost use Rattle.jc_collector_answers.specs.Collected.{told_within};
 ghost use Rattle.jc_collector_answers.specs.Grouped.{GivesAnswers, TakesLines};
@@ -35,12 +36,12 @@ pub(crate) fn gather_lines<'a, R: System, K: Keeper, L: ReadyLines, E: Errors>(
     gathered: &mut Gathered,
     errors: &mut E,
 ) -> Result<bool, Failure<'a>>
-    requires none { gathered.old.answers.items ≡ [] }
+    requires none { answers_in gathered.old ≡ [] }
     requires defaults { AreDefaults limits.now.name limits.now.value limits.now.fields limits.now.entry limits.now.file }
     ensures took { TakesLines K.Keeper limits.now (told_within most_windows R.told) lines (L.remaining names.old) (L.remaining names.new)
-        keeper.old keeper.new gathered.new.answers.items result }
-    ensures few { length gathered.new.answers.items ≤ most_together }
-    ensures quiet { OnOk result (list_any is_refusal gathered.new.answers.items ≡ false
+        keeper.old keeper.new (answers_in gathered.new) result }
+    ensures few { length (answers_in gathered.new) ≤ most_together }
+    ensures quiet { OnOk result (list_any is_refusal (answers_in gathered.new) ≡ false
         → Keeps (E.contents errors.old) (E.contents errors.new)) }
     ensures failed { IfErr result (λ failure. (failure ≡ Failure.ReadFailed) ⊎ (failure ≡ Failure.OutOfMemory)) }
 {
@@ -64,9 +65,9 @@ pub(crate) fn answer_gathered<'a, K: Keeper, O: Output>(
     gathered: &mut Gathered,
     output: &mut O,
 ) -> Result<Status, Failure<'a>>
-    requires few { length gathered.old.answers.items ≤ most_together }
-    ensures gives { GivesAnswers K.Keeper keeper.old keeper.new gathered.old.answers.items result (O.contents output.old) (O.contents output.new) }
-    ensures none { gathered.new.answers.items ≡ [] }
+    requires few { length (answers_in gathered.old) ≤ most_together }
+    ensures gives { GivesAnswers K.Keeper keeper.old keeper.new (answers_in gathered.old) result (O.contents output.old) (O.contents output.new) }
+    ensures none { answers_in gathered.new ≡ [] }
     ensures failed { IfErr result (λ failure. failure ≡ Failure.WriteFailed) }
 {
     gathered.settle(keeper);

@@ -6,6 +6,7 @@ ghost use Rattle.std.specs.List.{list_any};
 ghost use Rattle.jc_base.specs.declared.fault.Code.TheVariants.{ReadFailed};
 ghost use Rattle.jc_base.specs.Fault.{number_of};
 ghost use Rattle.jc_collect.specs.Delivered.{of_delivery};
+ghost use Rattle.jc_collect.specs.Gathered.{answers_in};
 ghost use Rattle.jc_collect.specs.Together.{TakesUp};
 ghost use Rattle.jc_upload.specs.declared.answer.Answer.TheVariants.{No};
 ghost use Rattle.jc_collector_answers.specs.Answered.{is_refusal};
@@ -34,11 +35,11 @@ pub(crate) fn take_name<R: System, K: Keeper, E: Errors>(
     errors: &mut E,
 ) -> Result<(), OutOfMemory>
     ensures took { OnOk result (TakesUp K.Keeper limits.now (told_within most_windows R.told name.now) keeper.old keeper.new
-        gathered.old.answers.items gathered.new.answers.items) }
+        (answers_in gathered.old) (answers_in gathered.new)) }
     ensures untouched { OnErr result (keeper.new ≡ keeper.old) }
-    ensures others { OnErr result (gathered.new.answers.items ≡ gathered.old.answers.items) }
+    ensures others { OnErr result (answers_in gathered.new ≡ answers_in gathered.old) }
     // Where something is told, there is a refusal.
-    ensures quiet { OnOk result (list_any is_refusal gathered.new.answers.items ≡ false
+    ensures quiet { OnOk result (list_any is_refusal (answers_in gathered.new) ≡ false
         → Keeps (E.contents errors.old) (E.contents errors.new)) }
 {
     let Ok(path) = str::from_utf8(name) else {
@@ -66,9 +67,9 @@ fn take_upload<K: Keeper, F: Read + ReadFile + Drop>(
 ) -> Result<(), OutOfMemory>
     ensures took { OnOk result (TakesUp K.Keeper limits.now
         (known_within most_windows (of_delivery ⟦<FromRead<F> as ByteStream>⟧.remaining ⟦<PagedSpace<FileSpace<F>> as ByteSpace>⟧.bytes upload))
-        keeper.old keeper.new gathered.old.answers.items gathered.new.answers.items) }
+        keeper.old keeper.new (answers_in gathered.old) (answers_in gathered.new)) }
     ensures untouched { OnErr result (keeper.new ≡ keeper.old) }
-    ensures others { OnErr result (gathered.new.answers.items ≡ gathered.old.answers.items) }
+    ensures others { OnErr result (answers_in gathered.new ≡ answers_in gathered.old) }
 {
     match most_windows {
         Some(most) => take_bounded(alloc, keeper, upload, most, limits, gathered),
@@ -89,9 +90,9 @@ fn take_bounded<K: Keeper, F: Read + ReadFile + Drop>(
     limits: &Limits,
     gathered: &mut Gathered,
 ) -> Result<(), OutOfMemory>
-    ensures took { OnOk result (TakesUp K.Keeper limits.now None keeper.old keeper.new gathered.old.answers.items gathered.new.answers.items) }
+    ensures took { OnOk result (TakesUp K.Keeper limits.now None keeper.old keeper.new (answers_in gathered.old) (answers_in gathered.new)) }
     ensures untouched { OnErr result (keeper.new ≡ keeper.old) }
-    ensures others { OnErr result (gathered.new.answers.items ≡ gathered.old.answers.items) }
+    ensures others { OnErr result (answers_in gathered.new ≡ answers_in gathered.old) }
 {
     // Does nothing: from its contract the proof has that no upload says two things.
     one_saying();
@@ -109,8 +110,8 @@ fn take_bounded<K: Keeper, F: Read + ReadFile + Drop>(
 
 /// Keeps the answer to an upload of which nothing could be read.
 fn put_unread(gathered: &mut Gathered) -> Result<(), OutOfMemory>
-    ensures put { OnOk result (gathered.new.answers.items ≡ gathered.old.answers.items ++ No None (number_of ReadFailed) 0 ∷ []) }
-    ensures others { OnErr result (gathered.new.answers.items ≡ gathered.old.answers.items) }
+    ensures put { OnOk result (answers_in gathered.new ≡ answers_in gathered.old ++ No None (number_of ReadFailed) 0 ∷ []) }
+    ensures others { OnErr result (answers_in gathered.new ≡ answers_in gathered.old) }
 {
     gathered.put(Answer::No {
         of: None,

@@ -1,5 +1,4 @@
 -- What is always so of the files of a store on a disk.
-use Rattle.std.specs.Prelude.{IsTrue}
 use Rattle.sqlite_disk.specs.declared.Disk as disk
 use Rattle.sqlite_wal.proofs.LogLemmas.{SeenMayStay}
 use Rattle.sqlite_pool.proofs.StateLemmas.{clean_if_left, seen_may_be_left}

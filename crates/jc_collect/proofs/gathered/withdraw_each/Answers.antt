@@ -1,6 +1,5 @@
 -- Each so far was answered so.
-use Rattle.std.proofs.Common.{◌≡◌, ◌++◌, ◌+◌, List, arith, drop, get_or, map, refl, set, subst, sym, take}
-use Rattle.std.proofs.lemmas.List.{append-nil, drop_all, take_all}
+use Rattle.std.proofs.Common.{◌≡◌, ◌++◌, ◌+◌, arith, drop, map, refl, set, subst, sym, take}
 use Rattle.std.proofs.lemmas.List.Edits.{map_over_more}
 use Rattle.jc_upload.specs.declared.answer.Answer.{Answer}
 use Rattle.jc_collect.specs.Settled.{withdrawn}
