@@ -12,6 +12,7 @@ pub mod WhyUncollected
 pub mod Counted
 pub mod Open
 pub mod AnsweredOver
+pub mod CollectLeft
 pub mod IntoUnion
 pub mod BeginAgain
 pub mod Asked

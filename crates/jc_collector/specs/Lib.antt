@@ -17,6 +17,7 @@ pub mod AnsweredOver
 pub mod KindLaws
 pub mod PrintedLaws
 pub mod Unopened
+pub mod CollectLeft
 pub mod Noted
 pub mod Noting
 pub mod UnionAnswered

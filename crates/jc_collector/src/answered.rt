@@ -15,10 +15,12 @@ ghost use Rattle.jc_collector.specs.Database.{DatabaseFailsBy, IsOutFailure, May
 ghost use Rattle.jc_collector.specs.Exported.{MayReplaceIf, OpensAndExports, OpensAndMayReplace, ReplacesIf};
 ghost use Rattle.jc_keeper.specs.Listing.{export_text};
 ghost use Rattle.jc_collector.specs.Open.{Begun, HasKind, StandsIn, StandsOver};
+ghost use Rattle.jc_collector.specs.Unopened.{IsLeftUnopened};
 
 use crate::database::{Opened, OpenedFiles, open_or_make};
 use crate::target::Target;
 use crate::then_export::export_after;
+use crate::unopened::Unopened;
 use crate::uploads::{Deliveries, NamedUploads, Uploads};
 use jc_base::ByteStream;
 use jc_collect::Delivery;
@@ -53,7 +55,7 @@ pub fn answer_deliveries<
     then_export: Option<&'a str>,
     deliveries: &mut [Delivery<R, B>],
     output: &mut O,
-) -> Result<Answered<'a, OpenedFiles<F>>, Failure<'a>>
+) -> Result<Answered<'a, OpenedFiles<F>>, Unopened<'a, F::Left>>
     ensures kind { IfOk result (λ run. HasKind F.Store run.keeper tables F.first) }
     // The answers are those to these uploads. What the printed lines acknowledge is stored, and found after a crash.
     ensures answers { IfOk result (λ run. AnswersIn F.Store run.keeper tables F.first (λ Holds. PrintsWith Holds (length deliveries.old))
@@ -64,7 +66,9 @@ pub fn answer_deliveries<
     ensures printed { IfOk result (λ run. IfOk run.done (λ status.
         PrintsAnswers (length deliveries.old) status (O.contents output.old) (O.contents output.new))) }
     ensures stopped { IfOk result (λ run. IfErr run.done IsOutFailure) }
-    ensures failed { IfErr result (DatabaseFailsBy database.now) }
+    ensures failed { IfErr result (λ unopened. DatabaseFailsBy database.now unopened.failure) }
+    ensures unopened { IfErr result (λ unopened. IsLeftUnopened F.in_files tables database.now F.first unopened.failure
+        (Y.deeds rt.old) (Y.deeds rt.new) unopened.left) }
     ensures untouched { IfErr result (λ _. Keeps (O.contents output.old) (O.contents output.new)) }
     ensures touched { OpensAndMayReplace database.now (option_map (λ name. name.now) then_export.entry)
         (Y.deeds rt.old) (Y.deeds rt.new) }
@@ -88,7 +92,7 @@ pub fn answer_lines<'a, Y: Databases, F: OpenFromFiles, L: ReadyLines, O: Output
     names: &mut L,
     output: &mut O,
     errors: &mut E,
-) -> Result<Answered<'a, OpenedFiles<F>>, Failure<'a>>
+) -> Result<Answered<'a, OpenedFiles<F>>, Unopened<'a, F::Left>>
     ensures kind { IfOk result (λ run. HasKind F.Store run.keeper tables F.first) }
     // The answers are those to these uploads. What the printed lines acknowledge is stored, and found after a crash.
     ensures answers { IfOk result (λ run. AnswersIn F.Store run.keeper tables F.first (λ Holds. NamedWith Holds (L.remaining names.old))
@@ -98,7 +102,9 @@ pub fn answer_lines<'a, Y: Databases, F: OpenFromFiles, L: ReadyLines, O: Output
     ensures quiet { IfOk result (λ run. IfOk run.done (λ status. status ≡ Status.Success
         → Keeps (E.contents errors.old) (E.contents errors.new))) }
     ensures stopped { IfOk result (λ run. IfErr run.done MayEndNames) }
-    ensures failed { IfErr result (DatabaseFailsBy database.now) }
+    ensures failed { IfErr result (λ unopened. DatabaseFailsBy database.now unopened.failure) }
+    ensures unopened { IfErr result (λ unopened. IsLeftUnopened F.in_files tables database.now F.first unopened.failure
+        (Y.deeds rt.old) (Y.deeds rt.new) unopened.left) }
     ensures untouched { IfErr result (λ _. Keeps (O.contents output.old) (O.contents output.new)) }
     ensures touched { OpensAndMayReplace database.now (option_map (λ name. name.now) then_export.entry)
         (Y.deeds rt.old) (Y.deeds rt.new) }
@@ -127,7 +133,7 @@ pub(crate) fn answer_uploads<
     uploads: U,
     output: &mut O,
     errors: &mut E,
-) -> Result<Answered<'a, OpenedFiles<F>>, Failure<'a>>
+) -> Result<Answered<'a, OpenedFiles<F>>, Unopened<'a, F::Left>>
     ensures kind { IfOk result (λ run. HasKind F.Store run.keeper target.entry.tables F.first) }
     ensures answers { IfOk result (λ run. AnswersIn F.Store run.keeper target.entry.tables F.first (PrintsCounted (U.counts uploads))
         (U.are Y.told uploads) run.done (O.contents output.old) (O.contents output.new)) }
@@ -140,7 +146,9 @@ pub(crate) fn answer_uploads<
     // The journal that is there then was exported, if a path is given.
     ensures exported { IfOk result (λ run. OnOk run.done (StandsIn F.Store run.keeper target.entry.tables F.first (λ _.
         OpensAndExports target.entry.database.now (option_map (λ name. name.now) target.entry.then_export) (Y.deeds rt.old) (Y.deeds rt.new)))) }
-    ensures failed { IfErr result (DatabaseFailsBy target.entry.database.now) }
+    ensures failed { IfErr result (λ unopened. DatabaseFailsBy target.entry.database.now unopened.failure) }
+    ensures unopened { IfErr result (λ unopened. IsLeftUnopened F.in_files target.entry.tables target.entry.database.now F.first unopened.failure
+        (Y.deeds rt.old) (Y.deeds rt.new) unopened.left) }
     ensures untouched { IfErr result (λ _. Keeps (O.contents output.old) (O.contents output.new)) }
     ensures touched { OpensAndMayReplace target.entry.database.now (option_map (λ name. name.now) target.entry.then_export)
         (Y.deeds rt.old) (Y.deeds rt.new) }
@@ -154,7 +162,7 @@ pub(crate) fn answer_uploads<
     // The checker doesn't cover a `?` here.
     let opened = match open_or_make::<_, F>(rt, database, start, tables) {
         Ok(opened) => opened,
-        Err(unopened) => return Err(Failure::from(unopened)),
+        Err(unopened) => return Err(unopened),
     };
     match opened {
         Opened::ByKey(mut keeper) => {

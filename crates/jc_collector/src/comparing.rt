@@ -11,9 +11,11 @@ ghost use Rattle.jc_command_shared.specs.Failure.{status_of};
 
 use crate::closing::{Closed, close_after};
 use crate::database::{Opened, check_name, open_there};
+use crate::failed::FailedCommand;
 use crate::failures::why_unanswered;
 use crate::health::{Examined, refused_as};
 use crate::into_union::list_present;
+use crate::unopened::Unopened;
 use jc_base::{Code, Ending, EntrySource, Fault, Limits, SliceStream, Step};
 use jc_command_shared::{Failure, Found, Output, Status, System, print_found};
 use jc_database::{Databases, OpenFromFiles, StoreInFiles};
@@ -54,12 +56,12 @@ pub fn check_noted<'a, Y: Databases, F: OpenFromFiles, O: Output>(
     database: &'a str,
     folder: &'a str,
     output: &mut O,
-) -> Result<Examined<Status, F::Files>, Failure<'a>>
+) -> Result<Examined<Status, F::Files>, FailedCommand<'a, F::Left>>
     // It prints what was found, and the files keep the journal that they had; or it says that they have none.
     ensures compared { IfOk result (λ examined. ComparesNoted F.first F.in_files examined.files examined.value
         (O.contents output.old) (O.contents output.new)) }
-    ensures failed { IfErr result (λ failure. (failure ≡ Failure.ReadFailed) ⊎ CheckFailsBy database.now failure) }
-    ensures untouched { IfErr result (λ failure. status_of failure ≢ Status.Failed
+    ensures failed { IfErr result (λ failed. (failed.failure ≡ Failure.ReadFailed) ⊎ CheckFailsBy database.now failed.failure) }
+    ensures untouched { IfErr result (λ failed. status_of failed.failure ≢ Status.Failed
         → Keeps (O.contents output.old) (O.contents output.new)) }
     ensures touched { OpensOnce database.now (Y.deeds rt.old) (Y.deeds rt.new) }
 {
@@ -74,9 +76,9 @@ fn compared<'a, Y: Databases, F: OpenFromFiles>(
     start: F::Start,
     database: &'a str,
     folder: &'a str,
-) -> Result<Examined<Comparison, F::Files>, Failure<'a>>
+) -> Result<Examined<Comparison, F::Files>, FailedCommand<'a, F::Left>>
     ensures kept { IfOk result (λ examined. LeavesCompared F.first F.in_files examined.value examined.files) }
-    ensures failed { IfErr result (λ failure. (failure ≡ Failure.ReadFailed) ⊎ WhyNoHealth database.now failure) }
+    ensures failed { IfErr result (λ failed. (failed.failure ≡ Failure.ReadFailed) ⊎ WhyNoHealth database.now failed.failure) }
     ensures touched { OpensOnce database.now (Y.deeds rt.old) (Y.deeds rt.new) }
 {
     match open_there::<_, F>(rt, database, start) {
@@ -86,9 +88,9 @@ fn compared<'a, Y: Databases, F: OpenFromFiles>(
         Ok(Opened::ByNumber(keeper)) => {
             Ok(Examined::closed(compare_and_close(rt, keeper, folder)?))
         }
-        Err(unopened) => match Failure::from(unopened) {
+        Err(Unopened { failure, left }) => match failure {
             Failure::Bad(fault) => Ok(refused_as(Comparison::Bad(fault))),
-            failure => Err(failure),
+            failure => Err(FailedCommand { failure, left }),
         },
     }
 }
@@ -98,11 +100,11 @@ fn compare_and_close<'a, Y: System, F: StoreInFiles, L: Listed>(
     rt: &Y,
     keeper: TableKeeper<F, L>,
     folder: &str,
-) -> Result<Closed<Comparison, F::Files>, Failure<'a>>
+) -> Result<Closed<Comparison, F::Files>, FailedCommand<'a, F::Left>>
     ensures sound { IfOk result (λ closed. F.in_files.clean closed.files
         → IsSound F.Store keeper.conn) }
     ensures kept { IfOk result (λ closed. EndsOver L.meaning F.Store F.in_files keeper.conn closed.files Stays) }
-    ensures failed { IfErr result ComparingFails }
+    ensures failed { IfErr result (λ failed. ComparingFails failed.failure) }
 {
     let (keeper, text) = list_present::<F, L>(rt.alloc(), keeper);
     let comparison = compare_listed(rt, text, folder);

@@ -14,7 +14,9 @@ ghost use Rattle.jc_command_shared.specs.Deeds.{OpensOnce};
 
 use crate::closing::{Closed, close_after};
 use crate::database::{Opened, check_name, open_there};
+use crate::failed::FailedCommand;
 use crate::failures::why_unanswered;
+use crate::unopened::Unopened;
 use jc_base::Fault;
 use jc_command_shared::{Failure, Found, Output, Status, print_found};
 use jc_database::{Databases, OpenFromFiles, StoreInFiles};
@@ -72,15 +74,15 @@ pub fn check<'a, Y: Databases, F: OpenFromFiles, O: Output>(
     start: F::Start,
     database: &'a str,
     output: &mut O,
-) -> Result<Examined<Status, F::Files>, Failure<'a>>
+) -> Result<Examined<Status, F::Files>, FailedCommand<'a, F::Left>>
     // It prints how many entries the files had, and they keep them; or the database is refused.
     ensures counted { IfOk result (λ examined. MatchOption examined.files (examined.value ≡ Status.Refused)
         (λ files. LeadsThere F.first F.in_files files
         (Prints count_line (O.contents output.old) (O.contents output.new)))) }
     ensures printed { IfOk result (λ examined. (health : Health) × IsHealth health
         × PrintsHealth health examined.value (O.contents output.old) (O.contents output.new)) }
-    ensures failed { IfErr result (CheckFailsBy database.now) }
-    ensures untouched { IfErr result (λ failure. status_of failure ≢ Status.Failed
+    ensures failed { IfErr result (λ failed. CheckFailsBy database.now failed.failure) }
+    ensures untouched { IfErr result (λ failed. status_of failed.failure ≢ Status.Failed
         → Keeps (O.contents output.old) (O.contents output.new)) }
     ensures touched { OpensOnce database.now (Y.deeds rt.old) (Y.deeds rt.new) }
 {
@@ -95,19 +97,19 @@ fn read_health<'a, Y: Databases, F: OpenFromFiles>(
     rt: &mut Y,
     start: F::Start,
     database: &'a str,
-) -> Result<Examined<Health, F::Files>, Failure<'a>>
+) -> Result<Examined<Health, F::Files>, FailedCommand<'a, F::Left>>
     ensures counted { IfOk result (λ examined. MatchOption examined.files (health_status examined.value ≡ Status.Refused)
         (λ files. LeadsThere F.first F.in_files files (Counts examined.value))) }
     ensures health { IfOk result (λ examined. IsHealth examined.value) }
-    ensures failed { IfErr result (WhyNoHealth database.now) }
+    ensures failed { IfErr result (λ failed. WhyNoHealth database.now failed.failure) }
     ensures touched { OpensOnce database.now (Y.deeds rt.old) (Y.deeds rt.new) }
 {
     match open_there::<_, F>(rt, database, start) {
         Ok(Opened::ByKey(keeper)) => Ok(Examined::closed(count_and_close(keeper)?)),
         Ok(Opened::ByNumber(keeper)) => Ok(Examined::closed(count_and_close(keeper)?)),
-        Err(unopened) => match Failure::from(unopened) {
+        Err(Unopened { failure, left }) => match failure {
             Failure::Bad(fault) => Ok(refused(fault)),
-            failure => Err(failure),
+            failure => Err(FailedCommand { failure, left }),
         },
     }
 }
@@ -134,13 +136,13 @@ pub(crate) fn refused<C: Drop>(fault: Fault) -> Examined<Health, C>
 /// Counts the entries of a keeper's journal, and closes its database.
 pub(crate) fn count_and_close<'a, F: StoreInFiles, L: Listed>(
     mut keeper: TableKeeper<F, L>,
-) -> Result<Closed<Health, F::Files>, Failure<'a>>
+) -> Result<Closed<Health, F::Files>, FailedCommand<'a, F::Left>>
     ensures sound { IfOk result (λ closed. F.in_files.clean closed.files
         → IsSound F.Store keeper.conn) }
     ensures counted { IfOk result (λ closed. EndsOver L.meaning F.Store F.in_files keeper.conn closed.files
         (Counts closed.value)) }
     ensures health { IfOk result (λ closed. IsHealth closed.value) }
-    ensures failed { IfErr result IsStoreFailure }
+    ensures failed { IfErr result (λ failed. IsStoreFailure failed.failure) }
 {
     let counted = count(&mut keeper);
     close_after(keeper, counted)

@@ -18,7 +18,9 @@ ghost use Rattle.jc_command_shared.specs.Deeds.{OpensOnce};
 use crate::closing::Closed;
 use crate::database::{check_name, open_old};
 use crate::earlier::{Earlier, EarlierFiles, open_earlier};
+use crate::failed::FailedCommand;
 use crate::health::{Examined, Health, count_and_close, print_health, refused};
+use crate::unopened::Unopened;
 use jc_base::Code;
 use jc_command_args::Tables;
 use jc_command_shared::{Failure, Output, Status};
@@ -38,15 +40,15 @@ pub fn migrate<'a, Y: Databases, F: OpenFromFiles, O: Output>(
     database: &'a str,
     tables: Tables,
     output: &mut O,
-) -> Result<Examined<Status, F::Files>, Failure<'a>>
+) -> Result<Examined<Status, F::Files>, FailedCommand<'a, F::Left>>
     // It prints how many entries the files had in tables of an earlier kind, and they have them in these.
     ensures moved { IfOk result (λ examined. MatchOption examined.files (examined.value ≡ Status.Refused)
         (λ files. LeadsFrom tables F.first F.in_files files
         (Prints count_line (O.contents output.old) (O.contents output.new)))) }
     ensures printed { IfOk result (λ examined. (health : Health) × IsHealth health
         × PrintsHealth health examined.value (O.contents output.old) (O.contents output.new)) }
-    ensures failed { IfErr result (CheckFailsBy database.now) }
-    ensures untouched { IfErr result (λ failure. status_of failure ≢ Status.Failed
+    ensures failed { IfErr result (λ failed. CheckFailsBy database.now failed.failure) }
+    ensures untouched { IfErr result (λ failed. status_of failed.failure ≢ Status.Failed
         → Keeps (O.contents output.old) (O.contents output.new)) }
     ensures touched { OpensOnce database.now (Y.deeds rt.old) (Y.deeds rt.new) }
 {
@@ -62,11 +64,11 @@ fn migrated_to<'a, Y: Databases, F: OpenFromFiles>(
     start: F::Start,
     database: &'a str,
     tables: Tables,
-) -> Result<Examined<Health, F::Files>, Failure<'a>>
+) -> Result<Examined<Health, F::Files>, FailedCommand<'a, F::Left>>
     ensures moved { IfOk result (λ examined. MatchOption examined.files (health_status examined.value ≡ Status.Refused)
         (λ files. LeadsFrom tables F.first F.in_files files (Counts examined.value))) }
     ensures health { IfOk result (λ examined. IsHealth examined.value) }
-    ensures failed { IfErr result (WhyNoHealth database.now) }
+    ensures failed { IfErr result (λ failed. WhyNoHealth database.now failed.failure) }
     ensures touched { OpensOnce database.now (Y.deeds rt.old) (Y.deeds rt.new) }
 {
     match tables {
@@ -80,18 +82,18 @@ fn migrated_by_key<'a, Y: Databases, F: OpenFromFiles>(
     rt: &mut Y,
     start: F::Start,
     database: &'a str,
-) -> Result<Examined<Health, F::Files>, Failure<'a>>
+) -> Result<Examined<Health, F::Files>, FailedCommand<'a, F::Left>>
     ensures moved { IfOk result (λ examined. MatchOption examined.files (health_status examined.value ≡ Status.Refused)
         (λ files. LeadsFrom ByKey F.first F.in_files files (Counts examined.value))) }
     ensures health { IfOk result (λ examined. IsHealth examined.value) }
-    ensures failed { IfErr result (WhyNoHealth database.now) }
+    ensures failed { IfErr result (λ failed. WhyNoHealth database.now failed.failure) }
     ensures touched { OpensOnce database.now (Y.deeds rt.old) (Y.deeds rt.new) }
 {
     match open_old::<_, F>(rt, database, start) {
         Ok(keeper) => Ok(Examined::closed(count_and_close(go_over::<F, SchemaTwo>(keeper)?)?)),
-        Err(unopened) => match Failure::from(unopened) {
+        Err(Unopened { failure, left }) => match failure {
             Failure::Bad(fault) => Ok(refused(fault)),
-            failure => Err(failure),
+            failure => Err(FailedCommand { failure, left }),
         },
     }
 }
@@ -101,18 +103,18 @@ fn migrated_by_number<'a, Y: Databases, F: OpenFromFiles>(
     rt: &mut Y,
     start: F::Start,
     database: &'a str,
-) -> Result<Examined<Health, F::Files>, Failure<'a>>
+) -> Result<Examined<Health, F::Files>, FailedCommand<'a, F::Left>>
     ensures moved { IfOk result (λ examined. MatchOption examined.files (health_status examined.value ≡ Status.Refused)
         (λ files. LeadsFrom ByNumber F.first F.in_files files (Counts examined.value))) }
     ensures health { IfOk result (λ examined. IsHealth examined.value) }
-    ensures failed { IfErr result (WhyNoHealth database.now) }
+    ensures failed { IfErr result (λ failed. WhyNoHealth database.now failed.failure) }
     ensures touched { OpensOnce database.now (Y.deeds rt.old) (Y.deeds rt.new) }
 {
     match open_earlier::<_, F>(rt, database, start) {
         Ok(taken) => Ok(Examined::closed(number_fields(taken)?)),
-        Err(unopened) => match Failure::from(unopened) {
+        Err(Unopened { failure, left }) => match failure {
             Failure::Bad(fault) => Ok(refused(fault)),
-            failure => Err(failure),
+            failure => Err(FailedCommand { failure, left }),
         },
     }
 }
@@ -120,12 +122,12 @@ fn migrated_by_number<'a, Y: Databases, F: OpenFromFiles>(
 /// Puts a journal into tables by number, counts its entries, and closes its database.
 fn number_fields<'a, F: StoreInFiles>(
     taken: EarlierFiles<F>,
-) -> Result<Closed<Health, F::Files>, Failure<'a>>
+) -> Result<Closed<Health, F::Files>, FailedCommand<'a, F::Left>>
     ensures sound { IfOk result (λ closed. F.in_files.clean closed.files
         → IsSound F.Store (conn_before taken)) }
     ensures moved { IfOk result (λ closed. EndsByNumber F.Store F.in_files taken closed.files (Counts closed.value)) }
     ensures health { IfOk result (λ closed. IsHealth closed.value) }
-    ensures failed { IfErr result IsStoreFailure }
+    ensures failed { IfErr result (λ failed. IsStoreFailure failed.failure) }
 {
     match taken {
         Earlier::Oldest(keeper) => count_and_close(raised(keeper)?),

@@ -17,6 +17,7 @@ use Rattle.jc_collector.specs.IntoUnion.{LeadsIf, UnionFailsBy}
 use Rattle.jc_database.specs.Files.{InFiles}
 use Rattle.clap.specs.declared.error.kind.ErrorKind.{ErrorKind}
 use Rattle.clap.specs.declared.error.kind.ErrorKind.TheVariants as kind
+use Rattle.jc_collector.specs.declared.failed.FailedCommand.{FailedCommand}
 use Rattle.jc_collector.specs.declared.into_union.closing.FailedRun.{FailedRun}
 use Rattle.jc_collector.specs.declared.into_union.closing.NotedLeft.{NotedLeft}
 use Rattle.jc_command_shared.specs.declared.failure.Failure.{Failure}
@@ -150,6 +151,19 @@ fails_as begun g (Err run) r request asked given old new deeds Unopened same is 
   why = at_err r run.failure (FailsBy begun.told request given) is fails;
   leaves = leaves;
   kept = at_err r run.failure (λ failure. status_of failure ≢ Failed → Keeps old new) is keeps;
+})
+
+-- ... and of what is left of a database
+pub fails_of : {S C L N T U : Type 0} (begun : Begins) (g : Devices S C L N) (made : Result U (FailedRun L N)) (r : Result T (FailedCommand L)) (request asked : Request) (given old new : Option (List ℕ)) (deeds : Option (List Deed)) (Unopened : Type 0)
+    → asked ≡ request → IfErr made (λ run. IsErrAnd r (λ failed. failed.failure ≡ run.failure)) → IfErr made (λ run. FailsLeaving begun g request given old new deeds Unopened run.failure run.left)
+    → IfErr r (λ failed. FailsBy begun.told request given failed.failure) → IfErr r (λ failed. status_of failed.failure ≢ Failed → Keeps old new)
+    → IfErr made (HasFailed begun g asked given old new deeds Unopened)
+fails_of begun g (Ok u) r request asked given old new deeds Unopened same is leaves fails keeps = tt
+fails_of begun g (Err run) (Ok x) request asked given old new deeds Unopened same is leaves fails keeps = absurd is
+fails_of begun g (Err run) (Err failed) request asked given old new deeds Unopened same is leaves fails keeps = fails_one begun g request asked given old new run same (record {
+  why = subst (FailsBy begun.told request given) is fails;
+  leaves = leaves;
+  kept = subst (λ (failure : Failure). status_of failure ≢ Failed → Keeps old new) is keeps;
 })
 
 pub err_is : {U E : Type 0} (made : Result U E) (run : E) (Q : E → Type 0) → IsErrAnd made (λ e. e ≡ run) → Q run → IfErr made Q

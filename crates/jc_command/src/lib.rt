@@ -2,6 +2,7 @@
 #![tactic(auto)]
 
 mod begun;
+mod done;
 mod note_folders;
 mod notes;
 mod run;

@@ -1,6 +1,6 @@
 //! One run of the program.
 
-ghost use Rattle.std.specs.Prelude.{◌≡◌, ◌≢◌, ◌⊎◌, ◌≤◌, None, Some, IsSome, Ok, Err, OnOk, IfOk, IfErr, IsOkAnd, map, string_bytes};
+ghost use Rattle.std.specs.Prelude.{◌≡◌, ◌≢◌, ◌⊎◌, ◌≤◌, None, Some, IsSome, Ok, Err, OnOk, IfOk, IfErr, map, string_bytes};
 ghost use Rattle.std.specs.Io.KnownBytes.{Appends, Keeps};
 ghost use Rattle.clap.specs.Words.{kind_of};
 ghost use Rattle.jc_command_args.specs.Answer.{IsAskedFor};
@@ -10,13 +10,14 @@ ghost use Rattle.jc_command.specs.Failed.{FailsAsked, FailsWithin, HasFailed};
 ghost use Rattle.jc_command.specs.Run.{AskToOpenNotes, DoesAsked, DoesFor, Ends, EndsWithin, HasPerformed, OpensNotes, PerformsAsked, Stops, begins_with, devices, leaves};
 
 use crate::begun::{Begun, BegunBy};
+use crate::done::Done;
 use crate::note_folders::{NoteFolders, Sequences};
 use crate::notes::{list_all_owners, rename_all, work_on_notes};
 use clap::error::ErrorKind;
 use jc_collect::Bounds;
 use jc_collector::{
-    Closed, Examined, FailedRun, NotedLeft, NotedRun, check, check_noted, collect,
-    collect_from_list, collect_into_union, export, inspect, migrate, show,
+    FailedRun, NotedLeft, check, check_noted, collect, collect_from_list, collect_into_union,
+    export, inspect, migrate, show,
 };
 use jc_command_args::{CODES, Request, parse};
 use jc_command_shared::{Errors, Failure, Output, Status, printed};
@@ -37,126 +38,6 @@ pub struct Ended<C: Drop, R: Drop, L: Ledger + Drop, N: Drop> {
     pub ledger: Option<L>,
     pub left: Option<NotedLeft<R, L>>,
     pub folders: Option<N>,
-}
-
-/// What was asked for is done.
-#[derive(Drop)]
-struct Done<C: Drop, L: Ledger + Drop> {
-    status: Status,
-    files: Option<C>,
-    ledger: Option<L>,
-}
-
-impl<C: Drop, L: Ledger + Drop> Done<C, L> {
-    /// By a command that works on no database.
-    fn without<'w, R: Drop>(
-        status: Result<Status, Failure<'w>>,
-    ) -> Result<Done<C, L>, FailedRun<'w, R, L>>
-        ensures done { IfOk result (λ done. IsOkAnd status.entry (λ status.
-            (done.status ≡ status) × (done.files ≡ None))) }
-        ensures failed { IfErr result (λ run. status.entry ≡ Err run.failure) }
-        ensures left { IfErr result (λ run. run.left ≡ None) }
-    {
-        match status {
-            Ok(status) => Ok(Done {
-                status,
-                files: None,
-                ledger: None,
-            }),
-            Err(failure) => Err(FailedRun::from(failure)),
-        }
-    }
-
-    /// By a command that works on no database, and answers nothing.
-    fn succeeded<'w, R: Drop>(
-        worked: Result<(), Failure<'w>>,
-    ) -> Result<Done<C, L>, FailedRun<'w, R, L>>
-        ensures done { IfOk result (λ done. IsOkAnd worked.entry (λ it.
-            (done.status ≡ Status.Success) × (done.files ≡ None))) }
-        ensures failed { IfErr result (λ run. worked.entry ≡ Err run.failure) }
-        ensures left { IfErr result (λ run. run.left ≡ None) }
-    {
-        match worked {
-            Ok(()) => Ok(Done {
-                status: Status::Success,
-                files: None,
-                ledger: None,
-            }),
-            Err(failure) => Err(FailedRun::from(failure)),
-        }
-    }
-
-    /// By a command that answers a status, and has closed its database.
-    fn closed<'w, R: Drop>(
-        closed: Result<Closed<Status, C>, Failure<'w>>,
-    ) -> Result<Done<C, L>, FailedRun<'w, R, L>>
-        ensures done { IfOk result (λ done. IsOkAnd closed.entry (λ closed.
-            (done.status ≡ closed.value) × (done.files ≡ Some closed.files))) }
-        ensures failed { IfErr result (λ run. closed.entry ≡ Err run.failure) }
-        ensures left { IfErr result (λ run. run.left ≡ None) }
-    {
-        match closed {
-            Ok(closed) => Ok(Done {
-                status: closed.value,
-                files: Some(closed.files),
-                ledger: None,
-            }),
-            Err(failure) => Err(FailedRun::from(failure)),
-        }
-    }
-
-    /// By a command over the union of databases, which has closed the present one.
-    fn noted(run: NotedRun<C, L>) -> Done<C, L>
-        ensures status { result.status ≡ run.status }
-        ensures files { result.files ≡ Some run.files }
-        ensures ledger { result.ledger ≡ Some run.ledger }
-    {
-        Done {
-            status: run.status,
-            files: Some(run.files),
-            ledger: Some(run.ledger),
-        }
-    }
-
-    /// By a command that lists a journal, and has closed its database.
-    fn listed<'w, R: Drop>(
-        closed: Result<Closed<(), C>, Failure<'w>>,
-    ) -> Result<Done<C, L>, FailedRun<'w, R, L>>
-        ensures done { IfOk result (λ done. IsOkAnd closed.entry (λ closed.
-            (done.status ≡ Status.Success) × (done.files ≡ Some closed.files))) }
-        ensures failed { IfErr result (λ run. closed.entry ≡ Err run.failure) }
-        ensures left { IfErr result (λ run. run.left ≡ None) }
-    {
-        match closed {
-            Ok(closed) => Ok(Done {
-                status: Status::Success,
-                files: Some(closed.files),
-                ledger: None,
-            }),
-            Err(failure) => Err(FailedRun::from(failure)),
-        }
-    }
-
-    /// By a command that says what there is of a journal. It has no notes.
-    // They are handed in, since the checker has a fault here where no argument is an `Option`.
-    fn examined<'w, R: Drop>(
-        examined: Result<Examined<Status, C>, Failure<'w>>,
-        ledger: Option<L>,
-    ) -> Result<Done<C, L>, FailedRun<'w, R, L>>
-        ensures done { IfOk result (λ done. IsOkAnd examined.entry (λ examined.
-            (done.status ≡ examined.value) × (done.files ≡ examined.files))) }
-        ensures failed { IfErr result (λ run. examined.entry ≡ Err run.failure) }
-        ensures left { IfErr result (λ run. run.left ≡ None) }
-    {
-        match examined {
-            Ok(examined) => Ok(Done {
-                status: examined.value,
-                files: examined.files,
-                ledger,
-            }),
-            Err(failure) => Err(FailedRun::from(failure)),
-        }
-    }
 }
 
 /// Does what the arguments ask for, as `run_command` does, and answers the status to end with.

@@ -22,7 +22,8 @@ use Rattle.jc_collector.specs.UnionLeft.{LeavesNoted}
 use Rattle.jc_collector.specs.UnionLeftLaws.{leaves_noted}
 use Rattle.jc_collector.specs.Open.{CleanIn, HoldsIn, IsFoundIn, RecoversIn}
 use Rattle.jc_collector.specs.Kinds.{BeginsIn, OpenedOver, conn_of, journal_in, kind_of, meaning_of}
-use Rattle.jc_theorems.specs.Stopped.{AnyLeft, LeavesEach, LeavesPrinted}
+use Rattle.jc_collector.specs.CollectLeft.{LeavesEach}
+use Rattle.jc_theorems.specs.Stopped.{AnyLeft, LeavesPrinted}
 
 -- ---- once it is stopped
 

@@ -24,13 +24,6 @@ WhenBegun g made first stopped Says =
 abbrev pub AnyLeft : {S C L : Type 0} → InFiles S C L → (stopped : S) → (Image → Type 0) → Type 0
 AnyLeft o stopped Is = (left : Image) → o.may_leave stopped left → ∥ Is left ∥₁
 
--- What a crash left of the files has a journal, in tables of this kind: what these answers to the first ones of some uploads
--- acknowledge, over what was stored, or all of some more of them, in order, none of which is acknowledged.
-pub record LeavesEach (AreUploads : List (Option (List ℕ)) → Type 0) (kind : Tables) (before : Journal) (answers : List Answer) (left : Image) : Type 0 where
-  pub found : Journal
-  pub keeps : KeepsFirstOf AreUploads before answers found
-  pub holds : HoldsJournal (meaning_of kind) left found
-
 -- What the next run finds, if its disks returned what was written: a journal with what these answers acknowledge, over what
 -- was stored, or all of some more, in order. `opened` is its keeper.
 abbrev pub FindsEach : {S : Type 0} → Ghosts S → (AreUploads : List (Option (List ℕ)) → Type 0) → (before : Journal) → List Answer → (opened : OpenedOver S) → Type 0

@@ -10,9 +10,10 @@ ghost use Rattle.jc_database.specs.Left.{IsLeftOf, StopsOnly};
 ghost use Rattle.jc_collector_answers.specs.Answered.{KeepsPrinted};
 ghost use Rattle.jc_collector_answers.specs.Collected.{just, those_named};
 ghost use Rattle.jc_collector_answers.specs.Tied.{NamedWith, PrintsFront, PrintsWith};
+ghost use Rattle.jc_collector.specs.CollectLeft.{LeavesEach};
 ghost use Rattle.jc_collector.specs.Exported.{OpensAndMayReplace};
 ghost use Rattle.jc_collector.specs.Kinds.{conn_of, journal_in, kind_of, meaning_of};
-ghost use Rattle.jc_theorems.specs.Stopped.{AnyLeft, FindsEach, LeavesEach, LeavesFirst, LeavesPrinted, WhenBegun, WhenStopped};
+ghost use Rattle.jc_theorems.specs.Stopped.{AnyLeft, FindsEach, LeavesFirst, LeavesPrinted, WhenBegun, WhenStopped};
 
 use jc_base::ByteStream;
 use jc_collect::Delivery;

@@ -8,10 +8,12 @@ ghost use Rattle.jc_collector.specs.Noted.{failure_of};
 ghost use Rattle.jc_collector.specs.UnionLeft.{IsLeftAs, handed_back};
 
 use super::opening::{OpenStop, TableUnion};
+use crate::closing::{Closed, close_after};
+use crate::failed::FailedCommand;
 use crate::unopened::Unopened;
 use jc_base::{Code, Fault};
 use jc_command_shared::{Failure, Status};
-use jc_database::{StoreInFiles, close_keeper};
+use jc_database::StoreInFiles;
 use jc_keeper::KeepStop;
 use jc_ledger::{Ledger, Past, UnionKeeper};
 use jc_store::Listed;
@@ -99,38 +101,22 @@ pub(super) fn close_union<'a, F: StoreInFiles, T: Listed + Drop, L: Ledger + Dro
         machine: _,
         alloc: _,
     } = union;
-    match close_keeper(present) {
-        Ok(files) => match answered {
-            Ok(status) => Ok(NotedRun {
-                status,
-                files,
+    match close_after(present, answered) {
+        Ok(Closed { value, files }) => Ok(NotedRun {
+            status: value,
+            files,
+            ledger,
+        }),
+        Err(FailedCommand { failure, left }) => {
+            let left = NotedLeft {
+                files: left,
                 ledger,
-            }),
-            Err(failure) => {
-                let files = Some(F::left_files(files));
-                Err(FailedRun {
-                    failure,
-                    left: Some(NotedLeft { files, ledger }),
-                })
-            }
-        },
-        Err(failed) => {
-            let files = Some(failed.store.left_store());
+            };
             Err(FailedRun {
-                failure: first_failure(answered),
-                left: Some(NotedLeft { files, ledger }),
+                failure,
+                left: Some(left),
             })
         }
-    }
-}
-
-/// Why a run failed whose database couldn't be closed.
-fn first_failure<'a>(answered: Result<Status, Failure<'a>>) -> Failure<'a>
-    ensures { (answered.entry ≡ Err result) ⊎ (result ≡ Failure.StoreFailed) }
-{
-    match answered {
-        Ok(_) => Failure::StoreFailed,
-        Err(failure) => failure,
     }
 }
 

@@ -1,5 +1,7 @@
 //! A standard output that fails when it is flushed.
 
+ghost use Rattle.std.specs.Prelude.{Some};
+
 use std::alloc::Global;
 use std::io;
 use std::io::Write;
@@ -25,9 +27,10 @@ impl Output {
 }
 
 impl Write for Output {
+    ghost contents = { λ s. Some s.kept.items };
+
     fn write(&mut self, buf: &[u8]) -> io::Result<usize> {
-        self.kept.extend_from_slice(buf)?;
-        Ok(buf.len())
+        self.kept.write(buf)
     }
 
     fn flush(&mut self) -> io::Result<()> {

@@ -6,7 +6,7 @@ use super::output::Output;
 use super::stops::{Came, Run};
 use jc_base::FromRead;
 use jc_collect::Delivery;
-use jc_collector::{Closed, Opened, OpenedFiles, Unopened, show};
+use jc_collector::{Closed, FailedCommand, Opened, OpenedFiles, Unopened, show};
 use jc_command_args::Tables;
 use jc_command_shared::{Failure, Host, Status, Text};
 use jc_database::{OpenFromFiles, OverFiles, over_files};
@@ -138,11 +138,13 @@ fn shows<F: OpenFromFiles>(run: Stopping<'_>, start: F::Start) -> Told {
     }
 }
 
-fn shown<C: Drop>(listed: Result<Closed<(), C>, Failure<'_>>) -> Came {
+fn shown<C: Drop, L: Drop>(listed: Result<Closed<(), C>, FailedCommand<'_, L>>) -> Came {
     match listed {
         Ok(_) => Came::Ended,
-        Err(Failure::WriteFailed) => Came::Unwritten,
-        Err(_) => Came::Failed,
+        Err(failed) => match failed.failure {
+            Failure::WriteFailed => Came::Unwritten,
+            _ => Came::Failed,
+        },
     }
 }
 

@@ -3,6 +3,7 @@ use Rattle.jc_command_args.specs.declared.request.Tables.TheVariants.{ByKey, ByN
 use Rattle.jc_collector.proofs.AnsweredOver.{answers_begun, collects_begun}
 use Rattle.jc_collector.proofs.Exported.{opens_exports}
 use Rattle.jc_collector.proofs.Found.{begun_found}
+use Rattle.jc_collector.proofs.IntoUnion.{database_fault}
 use Rattle.jc_collector.proofs.Open.{on_ok_each}
 use Rattle.jc_collector.proofs.answered.answer_uploads.Goals as goal
 
@@ -57,3 +58,10 @@ returns-in-ByNumber-clause-exported g c =
     let it = stands sound before (begun_found c.args.target.tables ByNumber g.F.OpenFromFiles.first c.in-ByNumber.keeper.conn found before begin) in
     (it.0, opens_exports _ _ _ _ _ _ c.in-Ok.ensures.touched it.1))
     c.answer_over-done-in-ByNumber.ensures.exported
+
+pub returns-in-Err-clause-unopened : goal.returns-in-Err-clause-unopened
+returns-in-Err-clause-unopened g c = record {
+  begins = c.in-Err.ensures.crash;
+  handed = c.in-Err.ensures.handed;
+  fault = database_fault c.args.target.database.now _ c.in-Err.ensures.failed;
+}

@@ -1,8 +1,8 @@
 -- The closed files have the journal that was listed.
-use Rattle.std.proofs.Common.{refl}
-use Rattle.jc_collector.specs.Compared.{Stays}
+use Rattle.std.proofs.Common.{inl, inr, refl}
+use Rattle.jc_collector.specs.Compared.{ComparingFails, Stays}
 use Rattle.jc_collector.proofs.OverFiles.{ends_over}
-use Rattle.jc_collector.proofs.Results.{IfOk-both, IfOk-each}
+use Rattle.jc_collector.proofs.Results.{IfOk-both, IfOk-each, failure_in_other}
 use Rattle.jc_collector.proofs.comparing.compare_and_close.Goals as goal
 
 pub returns-clause-sound : goal.returns-clause-sound
@@ -18,3 +18,8 @@ returns-clause-kept g c =
     (λ now made. listed.keeps.same (listed.before now) made now)
     (λ now. now) (record { same = λ _ _ _. refl; made = λ made. made }) closed.files sound always)
     c.close_after.ensures.sound c.close_after.ensures.keeps
+
+pub returns-clause-failed : goal.returns-clause-failed
+returns-clause-failed g c =
+    failure_in_other c.close_after.result c.compare_listed-comparison.result (λ failed. failed.failure) _ ComparingFails c.close_after.ensures.failed
+    c.compare_listed-comparison.ensures.failed (λ failure is. inr (inl is))

@@ -3,7 +3,7 @@ use Rattle.std.proofs.Common.{inl, refl}
 use Rattle.jc_collector.specs.Checked.{Counts, IsHealth}
 use Rattle.jc_collector.specs.Database.{IsStoreFailure}
 use Rattle.jc_collector.proofs.OverFiles.{ends_over}
-use Rattle.jc_collector.proofs.Results.{IfOk-each, IfOk-three, at_ok, failure_of_other, value_of_other}
+use Rattle.jc_collector.proofs.Results.{IfOk-each, IfOk-three, at_ok, failure_in_other, value_of_other}
 use Rattle.jc_collector.proofs.health.count_and_close.Goals as goal
 
 pub returns-clause-sound : goal.returns-clause-sound
@@ -29,5 +29,5 @@ returns-clause-health g c =
 
 pub returns-clause-failed : goal.returns-clause-failed
 returns-clause-failed g c =
-    failure_of_other c.close_after.result c.count-counted.result _ IsStoreFailure c.close_after.ensures.failed c.count-counted.ensures.failed
+    failure_in_other c.close_after.result c.count-counted.result (λ failed. failed.failure) _ IsStoreFailure c.close_after.ensures.failed c.count-counted.ensures.failed
     (λ failure is. inl is)

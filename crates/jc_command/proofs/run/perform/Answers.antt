@@ -4,7 +4,7 @@ use Rattle.std.proofs.KnownBytes.{Keeps-refl}
 use Rattle.std.proofs.lemmas.Result.{IfErr-weaker}
 use Rattle.jc_collector.specs.UnionRunLaws.{runs_left, runs_noted, runs_printed, runs_quiet, runs_stored, runs_untouched}
 use Rattle.jc_command.proofs.NotesFailing.{by_name, releases}
-use Rattle.jc_command.proofs.Runs.{IfErr-both, at_ok, by_file, by_folder, by_upload, collects_as, does_as, err_is, fails_as, fails_one, leads_from, ok_of, performs_as, performs_still, same_start, unless_failed, write_fails}
+use Rattle.jc_command.proofs.Runs.{IfErr-both, at_ok, by_file, by_folder, by_upload, collects_as, does_as, err_is, fails_as, fails_of, fails_one, leads_from, ok_of, performs_as, performs_still, same_start, unless_failed, write_fails}
 use Rattle.jc_command.specs.Failed.{AreAsBegun, IsUnopened}
 use Rattle.jc_command.specs.Run.{begins_with, devices}
 use Rattle.jc_command.proofs.run.perform.Goals as goal
@@ -101,7 +101,7 @@ returns-in-Collect-clause-performed g c =
 pub returns-in-Collect-clause-failed : goal.returns-in-Collect-clause-failed
 returns-in-Collect-clause-failed g c =
     let failed = rw c.as_slice-uploads.ensures.value at c.collect-closed.ensures.failed in
-    fails_as _ _ c.closed.result c.collect-closed.result _ _ _ _ _ _ _ c.in-Collect.is c.closed.ensures.failed c.closed.ensures.left
+    fails_of _ _ c.closed.result c.collect-closed.result _ _ _ _ _ _ _ c.in-Collect.is c.closed.ensures.failed c.closed.ensures.left
     failed c.collect-closed.ensures.untouched
 
 pub returns-in-Collect-clause-touched : goal.returns-in-Collect-clause-touched
@@ -121,7 +121,7 @@ returns-in-CollectListed-clause-performed g c =
 
 pub returns-in-CollectListed-clause-failed : goal.returns-in-CollectListed-clause-failed
 returns-in-CollectListed-clause-failed g c =
-    fails_as _ _ c.closed-in-CollectListed.result c.collect_from_list-closed.result _ _ _ _ _ _ _ c.in-CollectListed.is c.closed-in-CollectListed.ensures.failed c.closed-in-CollectListed.ensures.left
+    fails_of _ _ c.closed-in-CollectListed.result c.collect_from_list-closed.result _ _ _ _ _ _ _ c.in-CollectListed.is c.closed-in-CollectListed.ensures.failed c.closed-in-CollectListed.ensures.left
     c.collect_from_list-closed.ensures.failed c.collect_from_list-closed.ensures.untouched
 
 pub returns-in-CollectListed-clause-touched : goal.returns-in-CollectListed-clause-touched
@@ -136,7 +136,7 @@ returns-in-Export-clause-performed g c =
 
 pub returns-in-Export-clause-failed : goal.returns-in-Export-clause-failed
 returns-in-Export-clause-failed g c =
-    fails_as _ _ c.listed.result c.export-closed.result _ _ _ _ _ _ _ c.in-Export.is c.listed.ensures.failed c.listed.ensures.left
+    fails_of _ _ c.listed.result c.export-closed.result _ _ _ _ _ _ _ c.in-Export.is c.listed.ensures.failed c.listed.ensures.left
     c.export-closed.ensures.failed c.export-closed.ensures.untouched
 
 pub returns-in-Export-clause-touched : goal.returns-in-Export-clause-touched
@@ -151,7 +151,7 @@ returns-in-Show-clause-performed g c =
 
 pub returns-in-Show-clause-failed : goal.returns-in-Show-clause-failed
 returns-in-Show-clause-failed g c =
-    fails_as _ _ c.listed-in-Show.result c.show-closed.result _ _ _ _ _ _ _ c.in-Show.is c.listed-in-Show.ensures.failed c.listed-in-Show.ensures.left
+    fails_of _ _ c.listed-in-Show.result c.show-closed.result _ _ _ _ _ _ _ c.in-Show.is c.listed-in-Show.ensures.failed c.listed-in-Show.ensures.left
     c.show-closed.ensures.failed c.show-closed.ensures.untouched
 
 pub returns-in-Show-clause-touched : goal.returns-in-Show-clause-touched
@@ -172,7 +172,7 @@ returns-in-Check-clause-performed g c =
 
 pub returns-in-Check-clause-failed : goal.returns-in-Check-clause-failed
 returns-in-Check-clause-failed g c =
-    fails_as _ _ c.examined.result c.check-examined.result _ _ _ _ _ _ _ c.in-Check.is c.examined.ensures.failed c.examined.ensures.left
+    fails_of _ _ c.examined.result c.check-examined.result _ _ _ _ _ _ _ c.in-Check.is c.examined.ensures.failed c.examined.ensures.left
     c.check-examined.ensures.failed c.check-examined.ensures.untouched
 
 pub returns-in-Check-clause-touched : goal.returns-in-Check-clause-touched
@@ -187,7 +187,7 @@ returns-in-CheckNoted-clause-performed g c =
 
 pub returns-in-CheckNoted-clause-failed : goal.returns-in-CheckNoted-clause-failed
 returns-in-CheckNoted-clause-failed g c =
-    fails_as _ _ c.examined-in-CheckNoted.result c.check_noted-examined.result _ _ _ _ _ _ _ c.in-CheckNoted.is c.examined-in-CheckNoted.ensures.failed c.examined-in-CheckNoted.ensures.left
+    fails_of _ _ c.examined-in-CheckNoted.result c.check_noted-examined.result _ _ _ _ _ _ _ c.in-CheckNoted.is c.examined-in-CheckNoted.ensures.failed c.examined-in-CheckNoted.ensures.left
     c.check_noted-examined.ensures.failed c.check_noted-examined.ensures.untouched
 
 pub returns-in-CheckNoted-clause-touched : goal.returns-in-CheckNoted-clause-touched
@@ -272,7 +272,7 @@ returns-in-Migrate-clause-performed g c =
 
 pub returns-in-Migrate-clause-failed : goal.returns-in-Migrate-clause-failed
 returns-in-Migrate-clause-failed g c =
-    fails_as _ _ c.examined-in-Migrate.result c.migrate-examined.result _ _ _ _ _ _ _ c.in-Migrate.is c.examined-in-Migrate.ensures.failed c.examined-in-Migrate.ensures.left
+    fails_of _ _ c.examined-in-Migrate.result c.migrate-examined.result _ _ _ _ _ _ _ c.in-Migrate.is c.examined-in-Migrate.ensures.failed c.examined-in-Migrate.ensures.left
     c.migrate-examined.ensures.failed c.migrate-examined.ensures.untouched
 
 pub returns-in-Migrate-clause-touched : goal.returns-in-Migrate-clause-touched

@@ -9,7 +9,8 @@ use Rattle.jc_collector_answers.specs.Collected.{just}
 use Rattle.jc_collector_answers.specs.Tied.{PrintsWith, PrintsFront}
 use Rattle.jc_collector.specs.Open.{HoldsIn}
 use Rattle.jc_collector.specs.Kinds.{kind_of}
-use Rattle.jc_theorems.specs.Stopped.{AnyLeft, LeavesEach, LeavesFirst, LeavesPrinted}
+use Rattle.jc_collector.specs.CollectLeft.{LeavesEach}
+use Rattle.jc_theorems.specs.Stopped.{AnyLeft, LeavesFirst, LeavesPrinted}
 use Rattle.jc_collector.specs.KindLaws.{at_kind}
 use Rattle.jc_collector.specs.PrintedLaws.{front, whole}
 use Rattle.jc_collector_answers.specs.PrintedLaws.{front_other, many, with_other}

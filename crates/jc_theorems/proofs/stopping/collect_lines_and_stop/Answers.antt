@@ -6,7 +6,8 @@ use Rattle.jc_collector_answers.specs.declared.name_lines.NameLines.TheVariants.
 use Rattle.jc_collector_answers.specs.Tied.{NamedWith, PrintsFront}
 use Rattle.jc_collector.specs.Open.{HoldsIn}
 use Rattle.jc_collector.specs.Kinds.{kind_of}
-use Rattle.jc_theorems.specs.Stopped.{AnyLeft, LeavesEach}
+use Rattle.jc_collector.specs.CollectLeft.{LeavesEach}
+use Rattle.jc_theorems.specs.Stopped.{AnyLeft}
 use Rattle.jc_collector.specs.KindLaws.{at_kind}
 use Rattle.jc_collector.specs.PrintedLaws.{front, whole}
 use Rattle.jc_collector_answers.specs.PrintedLaws.{front_other, named, named_other}

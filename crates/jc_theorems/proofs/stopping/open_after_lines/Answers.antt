@@ -7,7 +7,8 @@ use Rattle.jc_upload.specs.declared.answer.Answer.{Answer}
 use Rattle.jc_collector_answers.specs.Collected.{those_named}
 use Rattle.jc_collector_answers.specs.declared.name_lines.NameLines.TheVariants.{Uploads}
 use Rattle.jc_collector_answers.specs.Tied.{NamedWith}
-use Rattle.jc_theorems.specs.Stopped.{AnyLeft, FindsEach, LeavesEach}
+use Rattle.jc_collector.specs.CollectLeft.{LeavesEach}
+use Rattle.jc_theorems.specs.Stopped.{AnyLeft, FindsEach}
 use Rattle.jc_collector_answers.specs.PrintedLaws.{named_other}
 use Rattle.jc_theorems.proofs.Left.{found_each}
 use Rattle.jc_theorems.proofs.stopping.open_after_lines.Goals as goal

@@ -7,7 +7,8 @@ use Rattle.jc_upload.specs.declared.answer.Answer.{Answer}
 use Rattle.jc_collect.specs.Delivered.{of_delivery}
 use Rattle.jc_collector_answers.specs.Collected.{just}
 use Rattle.jc_collector_answers.specs.Tied.{PrintsWith}
-use Rattle.jc_theorems.specs.Stopped.{AnyLeft, FindsEach, LeavesEach, LeavesPrinted}
+use Rattle.jc_collector.specs.CollectLeft.{LeavesEach}
+use Rattle.jc_theorems.specs.Stopped.{AnyLeft, FindsEach, LeavesPrinted}
 use Rattle.jc_collector_answers.specs.PrintedLaws.{with_other}
 use Rattle.jc_theorems.proofs.Left.{found_again, found_each}
 use Rattle.jc_theorems.proofs.Results.{on_ok_if}
