@@ -1,4 +1,5 @@
 pub mod Causes
+pub mod TakenUp
 pub mod NoFailures
 pub mod Results
 pub mod Left

@@ -1,3 +1,4 @@
+pub mod Copied
 pub mod InMemory
 pub mod InWorld
 pub mod Stopped

@@ -7,8 +7,9 @@ use jc_base::{Id128, Limits};
 use jc_export::read_all;
 use jc_keeper::{Keeper, MapKeeper};
 use jc_ledger::{Behind, EmptyShelf, MapLedger, UnionKeeper};
+use jc_schema_two::SchemaTwo;
 use jc_test_samples::SOURCE_ID;
-use jc_theorems::turn_world;
+use jc_theorems::{TurnedUnion, turn_world, world_behind_a_turn};
 use jc_world::{Event, World};
 use std::alloc::Global;
 use std::process::Abort;
@@ -134,4 +135,32 @@ fn a_world_that_turns(rt: HostRuntime) -> Result<(), Fail> {
     let world = grown(&rt, first_world(rt.alloc())?)?;
     let union = after_the_turn(&rt, turned(rt.alloc(), world)?)?;
     check_databases(&rt, union)
+}
+
+/// What happens behind the turn.
+const AFTER: [Event; 4] = [
+    Event::Hand(0),
+    Event::Make(0, 9),
+    Event::Deliver(1, 169),
+    Event::Hand(1),
+];
+
+/// The same world over databases in memory. What calls this has nothing of `world_behind_a_turn`'s contract to prove with.
+fn world_over_tables(alloc: Global) -> Result<World<TurnedUnion<SchemaTwo>>, Fail> {
+    let sources = vec![in alloc; Id128(SOURCE_ID)]?;
+    let mut before = Vec::new(alloc);
+    for (event, _position, _saved) in before_the_turn(alloc)? {
+        before.push(event)?;
+    }
+    match world_behind_a_turn(alloc, sources, Limits::default(), &before, &AFTER) {
+        Ok(Some(world)) => Ok(world),
+        _ => Err(Fail::new("no world")),
+    }
+}
+
+#[test]
+fn a_world_over_tables_that_turns(rt: HostRuntime) -> Result<(), Fail> {
+    let world = world_over_tables(rt.alloc())?;
+    let wanted = ["ack S 0 2 2 0", "ack S 2 1 1 0"];
+    same_answers(&rt, "answers", world.answers(), &wanted)
 }
