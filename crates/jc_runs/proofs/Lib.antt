@@ -9,4 +9,11 @@ mod WorkedDeletion
 mod WorkedSteps
 mod Following
 mod WorkedFiles
+mod WorkedStarts
 mod Renaming
+mod WorkedOwners
+mod Forgetting
+mod WorkedFront
+mod Asking
+mod Limited
+mod Joining

@@ -25,7 +25,7 @@ use Rattle.jc_ledger_files.specs.declared.window_name.WindowName.{WindowName}
 use Rattle.jc_notes.specs.Printed.{IsOwnerChange}
 use Rattle.jc_runs.specs.Between.{Between}
 use Rattle.jc_runs.specs.Next.{BeganWith}
-use Rattle.jc_runs.specs.Renamed.{AreFoundIn, ChangesOwner, OwnersAreChanged, owner_notes}
+use Rattle.jc_runs.specs.Renamed.{ChangesOwner, IsFoundIn, OwnersAreChanged, owner_notes}
 use Rattle.jc_runs.specs.Steps.{Leads, renames, with_owner}
 use Rattle.jc_runs.proofs.Unions.{part_get}
 use Rattle.jc_runs.proofs.WorkedFiles.{Files, lawful_owner, no_notes}
@@ -75,7 +75,7 @@ apart s k key = by_test (same_window (owner_window s) (window_of k)) refl
 
 module _ (files : Files) (made kind : Tables) (b : Between) (finished aside : Journal) (windows : WindowName → List ℕ) (image : Image) (came : List LogEntry)
     (told found : List ℕ → Option (List ℕ)) (deeds : Option (List Deed)) (shape : Shape) (folder : List ℕ) (s : Id128)
-    (began : BeganWith made kind (begins_with image windows finished aside (Contains came) told found deeds shape) b) (there : AreFoundIn folder found windows) where
+    (began : BeganWith made kind (begins_with image windows finished aside (Contains came) told found deeds shape) b) (there : IsFoundIn folder found windows (owner_window s)) where
   changed : (Asked : Option MachineDigest → Type 0) (name : Option (List ℕ)) (line text : List ℕ) (done : List Deed)
       → IsOwnerChange found folder (owner_window s) Asked line (owner_notes name) text done
       → ChangesOwner made kind b finished aside windows image came folder s Asked name done
@@ -101,7 +101,7 @@ module _ (files : Files) (made kind : Tables) (b : Between) (finished aside : Jo
 
       same : owner_of change.notes ≡ b.owner s
       same = ap owner_of (sym (files.read (windows (owner_window s)) change.notes
-          (subst (λ (o : Option (List ℕ)). IfSome o (λ file. HasNotes file change.notes)) (there (owner_window s)) change.read.known)))
+          (subst (λ (o : Option (List ℕ)). IfSome o (λ file. HasNotes file change.notes)) there change.read.known)))
           ∙ began.owner s
 
       anew : notes_of put ≡ owner_notes name

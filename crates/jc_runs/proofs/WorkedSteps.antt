@@ -1,10 +1,9 @@
 -- The worked list of steps, one by one.
-use Rattle.std.proofs.Common.{◌≡◌, ◌⊎◌, ◌∙◌, ◌&&◌, ◌||◌, ◌+◌, ◌*◌, arith, ℕ, Bool, true, false, cond, not, is_some, List, [], ◌∷◌, Option, Some, None, take, refl, sym, ap, subst, inl, inr, ⊎_elim}
+use Rattle.std.proofs.Common.{◌≡◌, ◌⊎◌, ◌∙◌, ◌&&◌, ◌||◌, ◌+◌, ◌*◌, arith, Bool, true, false, cond, not, is_some, List, [], ◌∷◌, Option, Some, None, take, refl, sym, ap, subst, inl, inr, ⊎_elim}
 use Rattle.std.specs.Option.{option_map, option_or}
 use Rattle.std.specs.List.{Contains}
 use Rattle.std.specs.FinMap.{empty, get, get-insert, insert, retain_keys}
 use Rattle.std.proofs.lemmas.List.Elements.{Contains-append_cases, Contains-append_left, Contains-append_right}
-use Rattle.jc_base.specs.declared.id.Id128.{Id128}
 use Rattle.jc_base.specs.declared.id.Key.{Key}
 use Rattle.jc_base.specs.Journal.{Journal}
 use Rattle.jc_base.specs.LogEntry.{LogEntry, Body}
@@ -22,7 +21,8 @@ use Rattle.jc_ledger_files.specs.Owned.{owner_window}
 use Rattle.jc_ledger_files.specs.Windows.{window_of}
 use Rattle.jc_runs.specs.Between.{Aside, Between, Expired, Kept, database, nothing}
 use Rattle.jc_runs.specs.Steps.{EndsRun, Expiry, Forgetting, LeadsOn, StopsRun, Turn}
-use Rattle.jc_runs.specs.Worked.{IsWorked, acks, alone, numbered, of_its_window, of_lost, of_one, of_other, uncommitted, unread, worked}
+use Rattle.jc_runs.specs.Worked.{IsWorked, acks, alone, of_its_window, of_lost, of_one, of_other, uncommitted, unread, worked}
+use Rattle.jc_runs.specs.WorkedNotes.{is_numbered}
 use Rattle.jc_runs.proofs.Course.{keeps_on, stands_at_first}
 use Rattle.jc_runs.proofs.OneMore.{Reads, collects_new, has_it, it_is, only, small_lost, small_one, small_other, stores_new, stores_same}
 use Rattle.jc_runs.proofs.Stepping.{Laws}
@@ -73,13 +73,13 @@ p1 = union empty m1
 abbrev pub p2 : Journal
 p2 = union p1 m2
 
-abbrev p3 : Journal
+abbrev pub p3 : Journal
 p3 = union p2 empty
 
-abbrev stays_there : Key → Bool
+abbrev pub stays_there : Key → Bool
 stays_there k = not (of_its_window (window_of k))
 
-abbrev p4 : Journal
+abbrev pub p4 : Journal
 p4 = retain_keys p3 stays_there
 
 abbrev pub came : List LogEntry
@@ -164,7 +164,7 @@ kept_as_known past now es apart of_past of_now = record {
   have_come = λ e stored. ⊎_elim (λ here. of_now e here) (λ there. of_past e there) (in_either past now e stored);
 }
 
-with_none : (past : Journal) (k : Key) → get past k ≡ get (union past empty) k
+pub with_none : (past : Journal) (k : Key) → get past k ≡ get (union past empty) k
 with_none past k = sym (union_get past empty k ∙ ap (λ (o : Option Body). option_or o (get past k)) (has_none k))
 
 -- Nothing of the present one is noted.
@@ -179,9 +179,6 @@ lags_whole : (past now : Journal) → AreApart past now → LagsBehind past empt
 lags_whole past now apart = record { has = λ e stored. not_in_none e stored; apart = apart }
 
 -- ---- whom sequences belong to
-
-unfoldable pub is_numbered : ℕ → Id128 → Bool
-is_numbered n s = key_eq (record { seqnum_id = s; seqnum = 0 }) (record { seqnum_id = numbered n; seqnum = 0 })
 
 unfoldable pub owned_if : (one other : Bool) → Option MachineDigest
 owned_if true other = Some (machine_named (1 ∷ []))
@@ -219,7 +216,7 @@ s5 = record s4 { earlier = database Kept m2 ∷ database Kept m1 ∷ []; past = 
 abbrev pub s6 : Between
 s6 = record s5 { now = m3; came = came_all }
 
-abbrev s7 : Between
+abbrev pub s7 : Between
 s7 = record s6 {
   earlier = database Aside m3 ∷ database Kept m2 ∷ database Kept m1 ∷ [];
   past = p3;
@@ -227,7 +224,7 @@ s7 = record s6 {
   forgotten = λ k. key_eq k of_lost.key;
 }
 
-abbrev s8 : Between
+abbrev pub s8 : Between
 s8 = record s7 {
   known = λ k. cond (of_its_window (window_of k)) None (known_of (union p1 m2) k);
   owner = λ s. cond (of_its_window (owner_window s)) None (both_owners s);
@@ -239,7 +236,7 @@ s8 = record s7 {
 abbrev s9 : Between
 s9 = record s8 { known = known_of (union p4 m1); now = m1 }
 
-abbrev s10 : Between
+abbrev pub s10 : Between
 s10 = record s9 { earlier = database Aside m3 ∷ database Kept m2 ∷ database Expired m1 ∷ [] }
 
 nothing_there : (k : Key) → get (union empty empty) k ≡ None
@@ -449,7 +446,13 @@ leads_half reads = (s1, step1 reads, (s2, step2, (s3, step3 reads, (s4, step4 re
 pub leads_to_s6 : Reads → LeadsOn nothing (take 6 worked) s6
 leads_to_s6 reads = (s1, step1 reads, (s2, step2, (s3, step3 reads, (s4, step4 reads, (s5, step5, (s6, step6 reads, refl))))))
 
-leads_there : Reads → LeadsOn nothing worked s10
+pub leads_to_s7 : Reads → LeadsOn nothing (take 7 worked) s7
+leads_to_s7 reads = (s1, step1 reads, (s2, step2, (s3, step3 reads, (s4, step4 reads, (s5, step5, (s6, step6 reads, (s7, step7, refl)))))))
+
+pub leads_to_s8 : Reads → LeadsOn nothing (take 8 worked) s8
+leads_to_s8 reads = (s1, step1 reads, (s2, step2, (s3, step3 reads, (s4, step4 reads, (s5, step5, (s6, step6 reads, (s7, step7, (s8, step8, refl))))))))
+
+pub leads_there : Reads → LeadsOn nothing worked s10
 leads_there reads = (
   s1,
   step1 reads,

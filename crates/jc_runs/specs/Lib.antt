@@ -3,6 +3,14 @@ pub mod Acknowledged
 pub mod Steps
 pub mod Stands
 pub mod Renamed
+pub mod Forgotten
 pub mod Safe
+pub mod Limited
 pub mod Next
+pub mod Stopped
 pub mod Worked
+pub mod WorkedNotes
+pub mod Starts
+pub mod WorkedOwners
+pub mod WorkedFront
+pub mod Asked

@@ -23,9 +23,9 @@ use Rattle.jc_runs.specs.Between.{Between}
 use Rattle.jc_runs.specs.Next.{BeganWith}
 use Rattle.jc_runs.specs.Steps.{with_owner}
 
--- In the folder these files of windows are found.
-abbrev pub AreFoundIn : (folder : List ℕ) → (found : List ℕ → Option (List ℕ)) → (windows : WindowName → List ℕ) → Type 0
-AreFoundIn folder found windows = (w : WindowName) → found (path_of folder w) ≡ Some (windows w)
+-- In the folder the file of this window is found.
+abbrev pub IsFoundIn : (folder : List ℕ) → (found : List ℕ → Option (List ℕ)) → (windows : WindowName → List ℕ) → WindowName → Type 0
+IsFoundIn folder found windows w = found (path_of folder w) ≡ Some (windows w)
 
 -- the files of windows once that of one has these notes alone
 abbrev pub with_notes : WindowName → List WindowNote → (windows : WindowName → List ℕ) → WindowName → List ℕ
@@ -54,7 +54,7 @@ abbrev pub OwnersAreChanged : Type 0
 OwnersAreChanged =
     (made kind : Tables) (b : Between) (finished aside : Journal) (windows : WindowName → List ℕ) (image : Image) (came : List LogEntry)
     (told found : List ℕ → Option (List ℕ)) (deeds : Option (List Deed)) (shape : Shape) (folder : List ℕ) (s : Id128)
-    → BeganWith made kind (begins_with image windows finished aside (Contains came) told found deeds shape) b → AreFoundIn folder found windows
+    → BeganWith made kind (begins_with image windows finished aside (Contains came) told found deeds shape) b → IsFoundIn folder found windows (owner_window s)
     → ((old other text : List ℕ) (done : List Deed)
     → IsRenaming found folder (machine_named old) (machine_named other) (owner_window s) text done
     → ChangesOwner made kind b finished aside windows image came folder s (λ owner. owner ≡ Some (machine_named old)) (Some other) done)

@@ -1,23 +1,15 @@
 -- A worked list of steps: two machines, four databases, a stop, one that left more than was acknowledged, an entry that comes
 -- again, an upload that can't be read, a database that is set aside, a window of notes that goes, and an upload that its machine
 -- may delete. (own)
-use Rattle.std.specs.Prelude.{ℕ, ◌+◌, ◌*◌, ◌≡◌, Bool, true, false, List, [], ◌∷◌, ◌++◌, Option, Some, None, take}
+use Rattle.std.specs.Prelude.{ℕ, ◌+◌, ◌*◌, ◌≡◌, Bool, true, false, List, [], ◌∷◌, ◌++◌, Option, Some, None}
 use Rattle.std.specs.List.{Contains}
-use Rattle.std.specs.FinMap.{empty}
-use Rattle.sqlite.specs.Recovery.{Image}
 use Rattle.jc_base.specs.declared.fault.Code.TheVariants.{ReadFailed, StoreFailed}
 use Rattle.jc_base.specs.declared.id.Id128.{Id128}
 use Rattle.jc_base.specs.Fault.{number_of}
 use Rattle.jc_base.specs.LogEntry.{LogEntry}
-use Rattle.jc_collector.specs.Kinds.{BeginsIn}
-use Rattle.jc_command.specs.Run.{begins_with}
-use Rattle.jc_command_args.specs.declared.request.Tables.{Tables}
-use Rattle.jc_command_shared.specs.Deeds.{Deed}
 use Rattle.jc_export.specs.Cut.{joined}
 use Rattle.jc_keeper.specs.Agree.{IsStored}
-use Rattle.jc_keeper.specs.declared.form.Shape.{Shape}
 use Rattle.jc_ledger.specs.Kept.{IsKept, NoneCollide}
-use Rattle.jc_ledger.specs.Known.{digest_of}
 use Rattle.jc_ledger.specs.Owners.{machine_named}
 use Rattle.jc_ledger_files.specs.declared.window_name.WindowName.{WindowName}
 use Rattle.jc_ledger_files.specs.Windows.{same_window, window_of}
@@ -26,8 +18,7 @@ use Rattle.jc_upload.specs.Head.{head_text}
 use Rattle.jc_upload.specs.declared.answer.Answer.{Answer}
 use Rattle.jc_upload.specs.declared.answer.Answer.TheVariants.{Ack, No}
 use Rattle.jc_upload.specs.declared.head.UploadHead.{UploadHead}
-use Rattle.jc_runs.specs.Between.{Aside, Between, IsInOne, Kept, MayBegin, journals_of, nothing}
-use Rattle.jc_runs.specs.Next.{BeganWith}
+use Rattle.jc_runs.specs.Between.{Aside, Between, IsInOne, Kept, journals_of, nothing}
 use Rattle.jc_runs.specs.Safe.{MayDelete, head_of_all}
 use Rattle.jc_runs.specs.Stands.{Keeps}
 use Rattle.jc_runs.specs.Steps.{Ends, Expires, LeadsOn, Step, Stops, Turns, forgets_windows}
@@ -87,8 +78,9 @@ worked =
     ∷ Turns Kept ∷ Stops (alone 3 of_lost) (uncommitted 3 ∷ []) ∷ Turns Aside ∷ forgets_windows of_its_window ∷ Ends (alone 1 of_one) (acks 1 1)
     ∷ Expires ∷ []
 
--- What they lead to: the first machine's entry is in two databases, since its note went, and the other's in one; what a stop left
--- beyond that was in the database that was set aside, and has no note; the sequences belong to whom they belonged to.
+-- What they lead to: the first machine's entry is in one database, and was in another, since its note went; the other's is in one;
+-- what a stop left beyond that was in the database that was set aside, and has no note; the sequences belong to whom they belonged
+-- to.
 pub record IsWorked (c : Between) : Type 0 where
   pub leads : LeadsOn nothing worked c
   pub apart : NoneCollide (Contains c.came)
@@ -107,16 +99,3 @@ pub record IsWorked (c : Between) : Type 0 where
   -- what holds behind any list, and of an upload that is acknowledged
   pub keeps : Keeps nothing worked c
   pub may : MayDelete (upload_of 1 of_one) (answer_text (ack_of 1 1)) worked
-
--- So many steps lead to this. The machines own the sequences, and their entries are noted, one of them in the 65th window: with
--- such files of notes, and with any of the present database that have what it has, the next run begins.
-pub record Starts (steps : ℕ) (b : Between) : Type 0 where
-  pub leads : LeadsOn nothing (take steps worked) b
-  pub owner : b.owner (numbered 1) ≡ Some (machine_named (1 ∷ []))
-  pub owner_of_other : b.owner (numbered 2) ≡ Some (machine_named (2 ∷ []))
-  pub noted : b.known of_one.key ≡ Some (digest_of of_one)
-  pub noted_of_other : b.known of_other.key ≡ Some (digest_of of_other)
-  pub windows : WindowName → List ℕ
-  pub began : (made kind : Tables) (image : Image) (told found : List ℕ → Option (List ℕ)) (deeds : Option (List Deed)) (shape : Shape) → BeginsIn made kind image b.now
-      → BeganWith made kind (begins_with image windows b.past empty (Contains b.came) told found deeds shape) b
-  pub begins : MayBegin b

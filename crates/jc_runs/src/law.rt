@@ -1,7 +1,6 @@
 //! What holds after any list of runs.
 
-ghost use Rattle.std.specs.Prelude.{◌≡◌, List, Option, None};
-ghost use Rattle.std.specs.FinMap.{empty, insert};
+ghost use Rattle.std.specs.Prelude.{◌≡◌, List, Option};
 ghost use Rattle.std.specs.List.{Contains};
 ghost use Rattle.jc_base.specs.declared.id.Id128.{Id128};
 ghost use Rattle.jc_base.specs.declared.id.Key.{Key};
@@ -9,12 +8,17 @@ ghost use Rattle.jc_base.specs.LogEntry.{IsKey};
 ghost use Rattle.jc_ledger.specs.declared.owner.MachineDigest.{MachineDigest};
 ghost use Rattle.jc_ledger.specs.Kept.{IsKept, NoneCollide};
 ghost use Rattle.jc_runs.specs.Between.{Between, Fate, nothing};
-ghost use Rattle.jc_runs.specs.Next.{BeginsUnopened, FirstBegins, MayMake};
+ghost use Rattle.jc_runs.specs.Forgotten.{FrontsAreKept, MayKeepFirst, WindowsGo};
+ghost use Rattle.jc_runs.specs.Limited.{CollectsWithin};
+ghost use Rattle.jc_runs.specs.Next.{BeginsUnopened, FirstBegins};
 ghost use Rattle.jc_runs.specs.Renamed.{OwnersAreChanged};
 ghost use Rattle.jc_runs.specs.Safe.{DeletesSafely, TellsAll};
 ghost use Rattle.jc_runs.specs.Stands.{Keeps, Stands};
 ghost use Rattle.jc_runs.specs.Steps.{Leads, LeadsOn, Step, Turn, renames, with_owner};
-ghost use Rattle.jc_runs.specs.Worked.{IsWorked, Starts, of_lost, of_other};
+ghost use Rattle.jc_runs.specs.Starts.{AreStarts};
+ghost use Rattle.jc_runs.specs.Worked.{IsWorked};
+ghost use Rattle.jc_runs.specs.WorkedFront.{KeepsNoNote};
+ghost use Rattle.jc_runs.specs.WorkedOwners.{AreRenamed};
 
 use jc_base::Limits;
 use jc_collect::{acknowledged_stored, each_stored};
@@ -37,17 +41,25 @@ pub fn runs_keep()
     // If `acknowledged` ends with 0, a line acknowledges all of the upload, and all that this reads as is kept.
     ensures tells { TellsAll }
     ensures deletes { DeletesSafely }
+    // All that is kept of uploads which are read so is within the limits, as it has to be for an export to be read back.
+    ensures limited { (limits : Limits) → CollectsWithin limits }
     // `owners` finds whose a sequence is where the next run does, and what it changes there is such a step.
     ensures owners { OwnersAreChanged }
+    // So it is where files of windows go, and where `notes forget-after` has windows keep their first notes, as may any that have
+    // one note of a number.
+    ensures windows_go { WindowsGo }
+    ensures fronts { FrontsAreKept }
+    ensures may_keep { MayKeepFirst }
     // Whose a sequence is may be changed at any time.
     ensures renames { (b : Between) (s : Id128) (machine : Option MachineDigest) → Leads (renames s) b (with_owner s machine b) }
     // There are such lists, and such uploads.
     ensures worked { (c : Between) × IsWorked c }
-    // A run begins with a database that has this entry alone, and behind a turn with an empty one, or with no file yet. So it
-    // does behind a stop, with a database whose entry has no note yet.
-    ensures starts { ((b : Between) × Starts 4 b × (b.now ≡ insert empty of_other.key of_other.body))
-        × ((b : Between) × Starts 5 b × (b.now ≡ empty) × MayMake b)
-        × ((b : Between) × Starts 6 b × (b.now ≡ insert empty of_lost.key of_lost.body) × (b.known of_lost.key ≡ None)) }
+    // Behind some of their steps a run begins, with files of notes that have something.
+    ensures starts { AreStarts }
+    // Behind four of them two sequences are renamed, one after the other.
+    ensures both_renamed { (b : Between) × AreRenamed b }
+    // So is a window that keeps none of its notes.
+    ensures keeps_no_note { (b : Between) × KeepsNoNote b }
 {
     acknowledged_stored();
     each_stored();
