@@ -2,17 +2,19 @@
 
 ghost use Rattle.std.specs.Prelude.{⊤};
 
-use crate::{Telling, with_entry};
-use jc_base::{Entry, Id128, Key};
-use jc_command::{Begun, BegunBy, Ended, NoteFolders, run_command};
+mod commands;
+
+use crate::Telling;
+use commands::{Work, prints};
+use jc_command::{Begun, Ended, NoteFolders};
 use jc_command_args::Tables;
 use jc_command_shared::Text;
 use jc_database::{OpenFromFiles, OverFiles, over_files};
+use jc_ledger::Ledger;
 use jc_ledger_files::LedgerInFiles;
-use jc_runs::{next_run, next_run_over_notes, runs_keep};
+use jc_runs::{run_as_step, runs_keep, stopped_run_as_step};
 use jc_sequences::{Faults, Folders};
 use jc_test_told::Machines;
-use jc_theorems::collect_into_union_and_stop;
 use sqlite::Unknown;
 use std::test::Fail;
 use std::{env, fs, io, process};
@@ -25,12 +27,15 @@ enum Until {
     Stop,
 }
 
-/// A run over a database, of uploads whose names stand in lines behind the machine that brings each.
+/// A run over a database, of uploads whose names stand in a list's lines behind the machine that brings each.
 #[derive(Drop)]
 struct Run<'a> {
     rt: &'a HostRuntime,
     sequences: &'a str,
     database: &'a str,
+    /// The file of the list, or `-`.
+    list: &'a str,
+    /// What standard input has.
     lines: &'a [u8],
     until: Until,
 }
@@ -42,6 +47,8 @@ enum Came {
     Ended(u8),
     /// It failed with this status before it opened a database, and handed back its notes alone.
     Unopened(u8),
+    /// It failed with this status as it opened its database, and handed back what is left of that, and its notes.
+    Refused(u8),
     /// It was stopped, and handed back its notes.
     Stopped,
     /// It handed back something else, or nothing.
@@ -86,7 +93,7 @@ fn words_of(run: &Run<'_>) -> io::Result<Vec<String>> {
         "--sequences",
         run.sequences,
         "--files-from",
-        "-",
+        run.list,
         run.database,
     ];
     let mut all = Vec::new(alloc);
@@ -96,6 +103,7 @@ fn words_of(run: &Run<'_>) -> io::Result<Vec<String>> {
     Ok(all)
 }
 
+/// A run that ends is a step, and behind any steps what is acknowledged is kept.
 fn run_to_end<F: OpenFromFiles, S: Begun, N: NoteFolders<S>>(
     run: Run<'_>,
     folders: N,
@@ -114,7 +122,7 @@ where
     let mut errors = Text {
         inner: Vec::new(alloc),
     };
-    let ended = run_command::<_, F, S, N, _, _, _>(
+    let ended = run_as_step::<_, F, S, N, _, _, _>(
         &mut system,
         folders,
         start,
@@ -123,36 +131,25 @@ where
         &mut output,
         &mut errors,
     );
+    runs_keep();
     Ok(Printed {
-        came: followed::<F, S, N>(&ended),
+        came: came_of(&ended),
         output: output.inner,
     })
 }
 
-/// Of what the run hands back, what it promises is a step, or the next one begins as it did; and behind any steps what is
-/// acknowledged is kept.
-fn followed<F: OpenFromFiles, S: Begun, N: NoteFolders<S>>(
-    ended: &Ended<F::Files, F::Left, N::Notes, N>,
-) -> Came
-where
-    N::Notes: LedgerInFiles,
-{
+fn came_of<C: Drop, R: Drop, L: Ledger + Drop, N: Drop>(ended: &Ended<C, R, L, N>) -> Came {
     match (&ended.files, &ended.ledger, &ended.left) {
-        (Some(files), Some(notes), None) => {
-            next_run::<F, S, N>(files, notes);
-            next_run_over_notes::<F, S, N>(notes);
-            runs_keep();
-            Came::Ended(ended.status)
-        }
-        (None, None, Some(left)) if left.files.is_none() => {
-            next_run_over_notes::<F, S, N>(&left.ledger);
-            runs_keep();
-            Came::Unopened(ended.status)
-        }
+        (Some(_files), Some(_notes), None) => Came::Ended(ended.status),
+        (None, None, Some(left)) => match left.files {
+            Some(_) => Came::Refused(ended.status),
+            None => Came::Unopened(ended.status),
+        },
         _ => Came::Lost,
     }
 }
 
+/// So is one that is stopped.
 fn run_to_stop<F: OpenFromFiles, S: Begun, N: NoteFolders<S>>(
     run: Run<'_>,
     folders: N,
@@ -161,61 +158,44 @@ fn run_to_stop<F: OpenFromFiles, S: Begun, N: NoteFolders<S>>(
 where
     N::Notes: LedgerInFiles,
 {
-    let mut output = Text {
-        inner: Vec::new(run.rt.alloc()),
-    };
-    let came = match folders.open(run.sequences) {
-        Ok(notes) => stopped::<F, S, N>(&run, notes, start, &mut output),
-        Err(_) => Came::Lost,
-    };
-    Printed {
-        came,
-        output: output.inner,
-    }
-}
-
-/// Of the notes as they were when it was stopped, what it promises is a step.
-fn stopped<F: OpenFromFiles, S: Begun, N: NoteFolders<S>>(
-    run: &Run<'_>,
-    notes: N::Notes,
-    start: F::Start,
-    output: &mut Text<Vec<u8>>,
-) -> Came
-where
-    N::Notes: LedgerInFiles,
-{
+    let alloc = run.rt.alloc();
     let mut system = Telling::<Machines>::new(run.rt);
     let mut names = run.lines;
-    let mut errors = Text {
-        inner: Vec::new(run.rt.alloc()),
+    let mut output = Text {
+        inner: Vec::new(alloc),
     };
-    let stopped = collect_into_union_and_stop::<_, F, N::Notes, BegunBy<S>, _, _, _>(
+    let mut errors = Text {
+        inner: Vec::new(alloc),
+    };
+    let stopped = stopped_run_as_step::<_, F, S, N, _, _, _>(
         &mut system,
+        folders,
+        run.sequences,
         start,
-        notes,
         run.database,
         Tables::ByKey,
         None,
         &mut names,
         None,
-        output,
+        &mut output,
         &mut errors,
     );
-    match stopped {
-        Ok(stopped) => {
-            next_run_over_notes::<F, S, N>(&stopped.ledger);
-            runs_keep();
-            Came::Stopped
-        }
-        Err(_) => Came::Lost,
+    runs_keep();
+    Printed {
+        came: match stopped {
+            Ok(_) => Came::Stopped,
+            Err(_) => Came::Lost,
+        },
+        output: output.inner,
     }
 }
 
-/// Such a run over a database and notes in a folder.
-fn collected(
+/// Such a run over a database and notes in a folder, of what a list names.
+fn collected_by(
     rt: &HostRuntime,
     folder: &str,
     database: &str,
+    list: &str,
     lines: &str,
     until: Until,
 ) -> io::Result<Printed> {
@@ -225,40 +205,22 @@ fn collected(
         rt,
         sequences: sequences.as_str(),
         database: database.as_str(),
+        list,
         lines: lines.as_bytes(),
         until,
     };
     over_files(run, Unknown)
 }
 
-/// A database with the first machine's entry is to be made at this path.
-#[derive(Drop)]
-struct Filling<'a> {
-    rt: &'a HostRuntime,
-    path: &'a str,
-}
-
-impl<'a> OverFiles for Filling<'a> {
-    type Outcome = bool;
-
-    ghost ends = { λ _ _. ⊤ };
-
-    fn over<F: OpenFromFiles>(self, start: F::Start) -> bool {
-        let alloc = self.rt.alloc();
-        let mut id = [0; 16];
-        id[0] = 1;
-        let key = Key {
-            seqnum_id: Id128(id),
-            seqnum: 1,
-        };
-        match Entry::from_text(alloc, key, 1, 1, b"") {
-            Ok(Some(entry)) => {
-                let mut system = Telling::<Machines>::new(self.rt);
-                with_entry::<_, F>(&mut system, self.path, start, entry).is_some()
-            }
-            _ => false,
-        }
-    }
+/// The same, of the lines on standard input.
+fn collected(
+    rt: &HostRuntime,
+    folder: &str,
+    database: &str,
+    lines: &str,
+    until: Until,
+) -> io::Result<Printed> {
+    collected_by(rt, folder, database, "-", lines, until)
 }
 
 /// The path of a new folder of this process, with a `/` at its end.
@@ -320,18 +282,28 @@ fn a_run_without_a_database_hands_back_its_notes(rt: HostRuntime) -> Result<(), 
     Ok(fs::remove_dir_all(&rt, folder)?)
 }
 
-/// A run over a database that has an entry, and no note of it, finds it there.
+/// A file that is no database is handed back. The next run has the notes as they were.
+#[test]
+fn a_run_over_another_file_hands_it_back(rt: HostRuntime) -> Result<(), Fail> {
+    let folder = new_folder(&rt, "refused")?;
+    let folder = folder.as_str();
+    let no_database = format!(in rt.alloc(); "{folder}text.db")?;
+    fs::write(&rt, no_database.as_str(), b"no database".as_slice())?;
+    let refused = collected(&rt, folder, "text.db", "\u{1}\t1\n", Until::End)?;
+    assert!(rt; are(&refused, Came::Refused(1), ""));
+    let next = collected(&rt, folder, "next.db", "\u{1}\t1\n", Until::End)?;
+    assert!(rt; are(&next, Came::Ended(0), ONE_IS_NEW));
+    Ok(fs::remove_dir_all(&rt, folder)?)
+}
+
+/// A run over a database that has an entry, and no note of it, finds it there. What it collects stands in a list that is told.
 #[test]
 fn a_database_with_an_entry_is_collected_into(rt: HostRuntime) -> Result<(), Fail> {
     let folder = new_folder(&rt, "filled")?;
     let folder = folder.as_str();
     let path = format!(in rt.alloc(); "{folder}filled.db")?;
-    let filling = Filling {
-        rt: &rt,
-        path: path.as_str(),
-    };
-    assert!(rt; over_files(filling, Unknown));
-    let again = collected(&rt, folder, "filled.db", "\u{1}\t1\n", Until::End)?;
+    assert!(rt; prints(&rt, Work::Make, path.as_str(), ""));
+    let again = collected_by(&rt, folder, "filled.db", "list", "", Until::End)?;
     assert!(rt; are(&again, Came::Ended(0), ONE_IS_THERE));
     Ok(fs::remove_dir_all(&rt, folder)?)
 }

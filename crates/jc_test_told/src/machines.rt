@@ -1,4 +1,4 @@
-//! Files with the uploads of two machines, each all of a source of its own.
+//! Files with the uploads of two machines, each all of a source of its own, and with a list of one.
 
 ghost use Rattle.std.specs.Prelude.{◌≡◌};
 ghost use Rattle.jc_test_told.specs.Machines.{told_of_machines};
@@ -26,7 +26,10 @@ pub(crate) const LOST: &[u8] = b"JCUPLD02\x01\x01\0\0\0\0\0\0\
     __REALTIME_TIMESTAMP=1\n__MONOTONIC_TIMESTAMP=1\n\
     __SEQNUM=262146\n__SEQNUM_ID=02000000000000000000000000000000\n\n";
 
-/// Files whose names begin with `1`, `2` or `3`: these uploads. There are no others.
+/// A list with the first one's upload, and the machine that brings it.
+pub(crate) const LIST: &[u8] = b"\x01\t1\n";
+
+/// Files whose names begin with `1`, `2`, `3` or `l`: these uploads, and the list. There are no others.
 pub struct Machines;
 
 impl Told for Machines {
@@ -37,6 +40,7 @@ impl Told for Machines {
             Some(b'1') => Some(ONE),
             Some(b'2') => Some(OTHER),
             Some(b'3') => Some(LOST),
+            Some(b'l') => Some(LIST),
             _ => None,
         }
     }

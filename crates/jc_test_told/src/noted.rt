@@ -55,6 +55,15 @@ pub struct WrittenFile {
     pub(crate) bytes: Vec<u8>,
 }
 
+impl WrittenFile {
+    /// What it has.
+    pub fn bytes(&self) -> &[u8]
+        ensures { ⟦<WrittenFile as Write>⟧.contents self.now ≡ Some result.now }
+    {
+        &self.bytes
+    }
+}
+
 impl Write for WrittenFile {
     ghost contents = { λ s. Some s.bytes.items };
 

@@ -1,4 +1,4 @@
-//! Files with uploads.
+//! Files of a machine: uploads, its journal and its resume point.
 
 ghost use Rattle.std.specs.Prelude.{◌≡◌};
 ghost use Rattle.jc_test_told.specs.Samples.{told_by_letter};
@@ -36,7 +36,10 @@ pub(crate) const CHANGED: &[u8] = b"JCUPLD01\x01\0\0\0\0\0\0\0\
 pub(crate) const STREAM: &[u8] = b"__REALTIME_TIMESTAMP=1000000\n__MONOTONIC_TIMESTAMP=5\n\
     __SEQNUM=1\n__SEQNUM_ID=000102030405060708090a0b0c0d0e0f\nMESSAGE=hi\n\n";
 
-/// Files whose names begin with `a`, `b`, `c`, `d` or `e`: the texts above in their order. There are no others.
+/// The resume text of a source whose first entry is that of the first.
+pub(crate) const RESUME: &[u8] = b"resume 1 000102030405060708090a0b0c0d0e0f 1\n";
+
+/// Files whose names begin with `a`, `b`, `c`, `d`, `e` or `f`: the texts above in their order. There are no others.
 pub struct Samples;
 
 impl Told for Samples {
@@ -49,6 +52,7 @@ impl Told for Samples {
             Some(b'c') => Some(CUT),
             Some(b'd') => Some(CHANGED),
             Some(b'e') => Some(STREAM),
+            Some(b'f') => Some(RESUME),
             _ => None,
         }
     }

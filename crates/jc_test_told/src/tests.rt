@@ -8,7 +8,7 @@ use jc_collector_answers::{NameLines, answer_names};
 use jc_command_args::{InputKind, Source};
 use jc_command_shared::{Status, Text};
 use jc_keeper::MapKeeper;
-use jc_sender::ack;
+use jc_sender::{ack, upload};
 use jc_test_samples::answer_lines;
 use std::test::Fail;
 
@@ -76,5 +76,25 @@ fn the_point_that_is_printed_is_kept(rt: HostRuntime) -> Result<(), Fail> {
         }
         _ => assert!(rt; false),
     }
+    Ok(())
+}
+
+/// The next upload goes on from the point that its resume file keeps: behind the only entry it has none.
+#[test]
+fn an_upload_goes_on_from_the_point_that_is_kept(rt: HostRuntime) -> Result<(), Fail> {
+    let alloc = rt.alloc();
+    let files = Memory::<Samples>::new(alloc);
+    let source = Source {
+        kind: InputKind::Export,
+        id: "a0a1a2a3a4a5a6a7a8a9aaabacadaeaf",
+        resume: "first",
+        file: "export",
+    };
+    let mut output = Vec::new(alloc);
+    assert!(rt; upload(&files, source, 1000, None, false, &mut output).is_ok());
+    let header = b"JCUPLD01\x01\0\0\0\0\0\0\0\
+        \xa0\xa1\xa2\xa3\xa4\xa5\xa6\xa7\xa8\xa9\xaa\xab\xac\xad\xae\xaf\
+        \x01\0\0\0\0\0\0\0\0\0\0\0\0\0\0\0";
+    assert_eq!(rt; output.as_slice(), header.as_slice());
     Ok(())
 }
